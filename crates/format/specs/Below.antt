@@ -1,0 +1,23 @@
+-- Sums, counts and searches over the numbers below a bound.
+use mathlib.Core.Bool.{Bool, false, cond, _||_}
+use Prim.Native.Nat.{ℕ, zero, suc, _+_}
+use lib.Dec.{ltb}
+
+-- f 0 + f 1 + … + f (n − 1)
+unfoldable pub sum-below : ℕ → (ℕ → ℕ) → ℕ
+sum-below zero f = 0
+sum-below (suc n) f = sum-below n f + f n
+
+-- how many numbers below n pass p
+abbrev pub count-below : ℕ → (ℕ → Bool) → ℕ
+count-below n p = sum-below n (λ k. cond (p k) 1 0)
+
+-- whether some number below n passes p
+unfoldable pub some-below : ℕ → (ℕ → Bool) → Bool
+some-below zero p = false
+some-below (suc n) p = p n || some-below n p
+
+-- the least number below n that passes p; n where none does
+unfoldable pub first-below : ℕ → (ℕ → Bool) → ℕ
+first-below zero p = 0
+first-below (suc n) p = cond (some-below n p) (first-below n p) (cond (p n) n (suc n))

@@ -1,0 +1,6 @@
+pub mod Below
+pub mod Layout
+pub mod Refusals
+pub mod Checks
+pub mod Names
+pub mod Changed

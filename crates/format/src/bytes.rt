@@ -1,0 +1,34 @@
+// Reading numbers and zeros out of a part of the file.
+ghost use mathlib.Core.Bool.{not};
+ghost use mathlib.Core.Path.{_≡_};
+ghost use Prim.Native.Nat.{_+_, _<_};
+ghost use lib.ListN.{length};
+ghost use Rattle.format.specs.Layout.{number16, number32};
+ghost use Rattle.format.specs.Checks.{some-nonzero};
+
+// The number in the two bytes from `at` on.
+pub(crate) fn number16(part: &[u8], at: usize) -> u16
+    requires { ⌜ at + 1 < length (now part) ⌝ }
+    ensures { λ r. ⌜ r ≡ number16 (now (part .entry)) at ⌝ }
+{
+    u16::from_be_bytes([part[at], part[at + 1]])
+}
+
+// The number in the four bytes from `at` on.
+pub(crate) fn number32(part: &[u8], at: usize) -> u32
+    requires { ⌜ at + 3 < length (now part) ⌝ }
+    ensures { λ r. ⌜ r ≡ number32 (now (part .entry)) at ⌝ }
+{
+    u32::from_be_bytes([part[at], part[at + 1], part[at + 2], part[at + 3]])
+}
+
+pub(crate) fn all_zero(part: &[u8]) -> bool
+    ensures { λ r. ⌜ r ≡ not (some-nonzero (now (part .entry))) ⌝ }
+{
+    for b in part {
+        if *b != 0 {
+            return false;
+        }
+    }
+    true
+}
