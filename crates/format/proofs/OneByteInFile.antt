@@ -11,7 +11,7 @@ use Rattle.std.specs.declared.option.Option.the-variants.{Some, None}
 use Rattle.std.proofs.shelf.Tests.{cond-true, cond-false, eqb-true, not-false, or-parts}
 use Rattle.format.specs.Layout.{Bytes, byte, block-count, block-of, record-count}
 use Rattle.format.specs.Refusals.{Check, first-failing, each-below, block-check, call-check}
-use Rattle.format.specs.Checks.{wrong-length, wrong-check, wrong-header, first-blank, blanks-wrong, block-checks, block-layer, record-layer, record-checks-at}
+use Rattle.format.specs.Checks.{wrong-length, wrong-check, wrong-header, first-blank, blanks-wrong, block-checks-at, block-layer, record-layer, record-checks-at}
 use Rattle.format.specs.Names.{no-such-record}
 use Rattle.format.specs.Changed.{One-changed-byte-is-refused}
 use Rattle.format.proofs.Cuts.{length-part, byte-part}
@@ -39,19 +39,19 @@ module _ (file : Bytes) (i value : ℕ) where
       ∙ ap (take 512) (drop-set-add (512 * (i / 512)) file (i % 512) value)
       ∙ take-set-lt 512 (drop (512 * (i / 512)) file) (i % 512) value (omega arith)
 
-  checks-before : (b : ℕ) → b < i / 512 → block-checks changed b ≡ block-checks file b
+  checks-before : (b : ℕ) → b < i / 512 → block-checks-at changed b ≡ block-checks-at file b
   checks-before b lt = λ j. block-check 2 b (wrong-check (block-before b lt j)) ∷ block-check 3 b (wrong-header b (same-count j) (block-before b lt j)) ∷ []
 
   module _ (right : first-failing (block-layer file) ≡ None) (inside : i < length file) (moved : value ≡ byte file i → ⊥) where
     abbrev behind-length : List Check
-    behind-length = each-below (block-count file) (block-checks file) ++ block-check 4 (first-blank file) (blanks-wrong file) ∷ []
+    behind-length = each-below (block-count file) (block-checks-at file) ++ block-check 4 (first-blank file) (blanks-wrong file) ∷ []
 
-    passed : (wrong-length file ≡ false) × (first-failing behind-length ≡ None)
-    passed = none-first (block-check 1 0 (wrong-length file)) behind-length right
+    passed : (wrong-length (length file) ≡ false) × (first-failing behind-length ≡ None)
+    passed = none-first (block-check 1 0 (wrong-length (length file))) behind-length right
 
-    blocks-right : (b : ℕ) → b < block-count file → first-failing (block-checks file b) ≡ None
+    blocks-right : (b : ℕ) → b < block-count file → first-failing (block-checks-at file b) ≡ None
     blocks-right b lt =
-        each-at (block-count file) (block-checks file) b lt (none-parts (each-below (block-count file) (block-checks file)) (block-check 4 (first-blank file) (blanks-wrong file) ∷ []) (passed .1) .0)
+        each-at (block-count file) (block-checks-at file) b lt (none-parts (each-below (block-count file) (block-checks-at file)) (block-check 4 (first-blank file) (blanks-wrong file) ∷ []) (passed .1) .0)
 
     -- the length is a multiple of 512, so the changed byte lies in a whole block
     whole : length file % 512 ≡ 0
@@ -71,17 +71,17 @@ module _ (file : Bytes) (i value : ℕ) where
         (omega arith)
         (λ e. moved (e ∙ byte-part file (512 * b) 512 (i % 512) (omega arith) ∙ ap (byte file) at))
 
-    there-fails : first-failing (block-checks changed (i / 512)) ≡ Some (record { number = 2; layer = 1; place = i / 512 })
+    there-fails : first-failing (block-checks-at changed (i / 512)) ≡ Some (record { number = 2; layer = 1; place = i / 512 })
     there-fails = cond-true (wrong-check (block-of changed (i / 512))) _ _ broken
 
-    before-pass : first-failing (each-below (i / 512) (block-checks changed)) ≡ None
-    before-pass = each-all (i / 512) (block-checks changed) (λ b lt. ap first-failing (checks-before b lt) ∙ blocks-right b (omega (arith, in-block)))
+    before-pass : first-failing (each-below (i / 512) (block-checks-at changed)) ≡ None
+    before-pass = each-all (i / 512) (block-checks-at changed) (λ b lt. ap first-failing (checks-before b lt) ∙ blocks-right b (omega (arith, in-block)))
 
     blocks-stop : first-failing (block-layer changed) ≡ Some (record { number = 2; layer = 1; place = i / 512 })
     blocks-stop =
-        cond-false (wrong-length changed) _ _ (rw (length-set file i value) (passed .0))
-        ∙ stops (each-below (block-count changed) (block-checks changed)) (block-check 4 (first-blank changed) (blanks-wrong changed) ∷ []) _
-        (each-stops (block-count changed) (block-checks changed) (i / 512) _ (rw same-count (in-block)) before-pass there-fails)
+        cond-false (wrong-length (length changed)) _ _ (rw (length-set file i value) (passed .0))
+        ∙ stops (each-below (block-count changed) (block-checks-at changed)) (block-check 4 (first-blank changed) (blanks-wrong changed) ∷ []) _
+        (each-stops (block-count changed) (block-checks-at changed) (i / 512) _ (rw same-count (in-block)) before-pass there-fails)
 
 pub changed-byte-refused : (file : Bytes) (number : ℕ) → One-changed-byte-is-refused file number
 changed-byte-refused file number right i value inside moved =

@@ -11,8 +11,8 @@ use Rattle.format.specs.declared.records.Ahead.{Ahead}
 use Rattle.format.specs.declared.records.Contents.{Contents}
 
 -- 1: the length is not a multiple of 512 from 512 to 9,216
-abbrev pub wrong-length : Bytes → Bool
-wrong-length file = not (eqb (length file % 512) 0) || (ltb (length file) 512 || ltb 9216 (length file))
+abbrev pub wrong-length : ℕ → Bool
+wrong-length len = not (eqb (len % 512) 0) || (ltb len 512 || ltb 9216 len)
 
 -- 2: the block's check is wrong
 abbrev pub wrong-check : Bytes → Bool
@@ -49,9 +49,12 @@ no-name len = eqb len 0
 abbrev pub wrong-name-byte : ℕ → ℕ → ℕ → Bool
 wrong-name-byte len i b = cond (ltb i len) (ltb b 33 || ltb 126 b) (not (eqb b 0))
 
+abbrev pub wrong-text : ℕ → Bytes → Bool
+wrong-text len text = some-below 13 (λ i. wrong-name-byte len i (byte text i))
+
 -- 7: the name is longer than 13, has a byte outside 33 to 126, or is followed by a byte other than 0
 abbrev pub wrong-name : ℕ → Bytes → Bool
-wrong-name len text = ltb 13 len || some-below 13 (λ i. wrong-name-byte len i (byte text i))
+wrong-name len text = ltb 13 len || wrong-text len text
 
 -- 8: the step's number is not its position or exceeds 31, its mask is 0, or a byte that it leaves unused is not 0
 abbrev pub wrong-step : Ahead → ℕ → ℕ → Bytes → Bool
@@ -61,12 +64,13 @@ wrong-step ahead step mask unused = not (eqb step (ahead .steps)) || (ltb 31 ste
 abbrev pub wrong-outcome : Ahead → ℕ → Bool
 wrong-outcome ahead step = leb 128 (ahead .outcomes) || (leb (ahead .steps) (step + 1) || ltb step (ahead .floor))
 
+-- the checks of a block
+abbrev pub block-checks : ℕ → ℕ → Bytes → List Check
+block-checks position count block = block-check 2 position (wrong-check block) ∷ block-check 3 position (wrong-header position count block) ∷ []
+
 -- the checks of block b
-abbrev pub block-checks : Bytes → ℕ → List Check
-block-checks file b =
-    block-check 2 b (wrong-check (block-of file b))
-    ∷ block-check 3 b (wrong-header b (block-count file) (block-of file b))
-    ∷ []
+abbrev pub block-checks-at : Bytes → ℕ → List Check
+block-checks-at file b = block-checks b (block-count file) (block-of file b)
 
 -- the checks of a record's name
 abbrev pub name-field-checks : ℕ → ℕ → Bytes → List Check
@@ -103,8 +107,8 @@ contents-of file = record { steps = steps-ahead file (record-count file); outcom
 -- layer 1
 abbrev pub block-layer : Bytes → List Check
 block-layer file =
-    block-check 1 0 (wrong-length file)
-    ∷ (each-below (block-count file) (block-checks file) ++ block-check 4 (first-blank file) (blanks-wrong file) ∷ [])
+    block-check 1 0 (wrong-length (length file))
+    ∷ (each-below (block-count file) (block-checks-at file) ++ block-check 4 (first-blank file) (blanks-wrong file) ∷ [])
 
 -- the checks of record r
 abbrev pub record-checks-at : Bytes → ℕ → List Check

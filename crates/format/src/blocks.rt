@@ -1,18 +1,21 @@
 // Layer 1: the file's length, each block's check and header, the blanks.
-ghost use mathlib.Core.Bool.{not};
+ghost use mathlib.Core.Bool.{not, _&&_};
 ghost use mathlib.Core.Path.{_≡_};
-ghost use Prim.Native.Nat.{_<_};
+ghost use lib.Dec.{ltb};
 ghost use lib.ListN.{length};
-ghost use Rattle.format.specs.Layout.{check-sum, block-count};
+ghost use Rattle.std.specs.declared.result.Result.the-variants.{Err};
+ghost use Rattle.format.specs.declared.faults.Fault.the-variants.{Block};
+ghost use Rattle.format.specs.Layout.{check-sum};
 ghost use Rattle.format.specs.Refusals.{refusal-in, first-failing};
-ghost use Rattle.format.specs.Checks.{wrong-check, wrong-header, first-blank, blanks-wrong, block-checks, block-layer};
+ghost use Rattle.format.specs.Checks.{wrong-length, wrong-check, wrong-header, some-nonzero, first-blank, blanks-wrong, block-checks, block-layer};
 ghost use Rattle.format.specs.Changed.{One-changed-byte-breaks-the-check};
 use crate::bytes::all_zero;
+use crate::bytes::cut;
+use crate::bytes::is_blank;
 use crate::bytes::number16;
 use crate::bytes::number32;
 use crate::faults::BlockCause;
 use crate::faults::Fault;
-use crate::layout::BLANK;
 use crate::layout::BLOCK;
 use crate::layout::MOST_BLANKS;
 use crate::layout::MOST_BLOCKS;
@@ -45,22 +48,28 @@ fn header_right(block: &[u8], position: usize, count: usize) -> bool
     usize::from(number16(block, 0)) == position && usize::from(number16(block, 2)) == count
 }
 
-fn check_block(file: &[u8], b: usize) -> Result<(), Fault>
-    requires { ⌜ b < block-count (now file) ⌝ }
-    ensures { λ r. ⌜ refusal-in r ≡ first-failing (block-checks (now (file .entry)) b) ⌝ }
+fn length_right(len: usize) -> bool
+    ensures { λ r. ⌜ r ≡ not (wrong-length len) ⌝ }
 {
-    let block = &file[BLOCK * b..BLOCK * b + BLOCK];
+    len % BLOCK == 0 && len >= BLOCK && len <= BLOCK * MOST_BLOCKS
+}
+
+fn refuse(cause: BlockCause, place: usize) -> Result<(), Fault>
+    ensures { λ r. ⌜ r ≡ Err (Block cause place) ⌝ }
+{
+    Err(Fault::Block { cause, place })
+}
+
+// The checks of one block, in their order.
+fn check_block(block: &[u8], position: usize, count: usize) -> Result<(), Fault>
+    requires { ⌜ length (now block) ≡ 512 ⌝ }
+    ensures { λ r. ⌜ refusal-in r ≡ first-failing (block-checks position count (now (block .entry))) ⌝ }
+{
     if !check_right(block) {
-        return Err(Fault::Block {
-            cause: BlockCause::Check,
-            place: b,
-        });
+        return refuse(BlockCause::Check, position);
     }
-    if !header_right(block, b, file.len() / BLOCK) {
-        return Err(Fault::Block {
-            cause: BlockCause::Header,
-            place: b,
-        });
+    if !header_right(block, position, count) {
+        return refuse(BlockCause::Header, position);
     }
     Ok(())
 }
@@ -72,12 +81,19 @@ fn first_blank(file: &[u8]) -> usize
     let mut reader = Reader::at(file, 0);
     let mut first = 0;
     while let Some(record) = reader.next_record() {
-        if record[0] == BLANK {
+        if is_blank(record) {
             return first;
         }
         first += 1;
     }
     first
+}
+
+// Whether a record may stand behind that many blanks.
+fn blank_right(rec: &[u8], blanks: usize) -> bool
+    ensures { λ r. ⌜ r ≡ (ltb blanks 8 && not (some-nonzero (now (rec .entry)))) ⌝ }
+{
+    blanks < MOST_BLANKS && all_zero(rec)
 }
 
 // Whether from record `first` on there are at most eight records, all zeros.
@@ -88,7 +104,7 @@ fn blanks_right(file: &[u8], first: usize) -> bool
     let mut reader = Reader::at(file, first);
     let mut blanks = 0;
     while let Some(record) = reader.next_record() {
-        if blanks == MOST_BLANKS || !all_zero(record) {
+        if !blank_right(record, blanks) {
             return false;
         }
         blanks += 1;
@@ -100,22 +116,16 @@ fn blanks_right(file: &[u8], first: usize) -> bool
 pub fn check_blocks(file: &[u8]) -> Result<(), Fault>
     ensures { λ r. ⌜ refusal-in r ≡ first-failing (block-layer (now (file .entry))) ⌝ }
 {
-    let len = file.len();
-    if len % BLOCK != 0 || len < BLOCK || len > BLOCK * MOST_BLOCKS {
-        return Err(Fault::Block {
-            cause: BlockCause::Length,
-            place: 0,
-        });
+    if !length_right(file.len()) {
+        return refuse(BlockCause::Length, 0);
     }
-    for b in 0..len / BLOCK {
-        check_block(file, b)?;
+    let count = file.len() / BLOCK;
+    for b in 0..count {
+        check_block(cut(file, BLOCK * b, BLOCK), b, count)?;
     }
     let first = first_blank(file);
     if !blanks_right(file, first) {
-        return Err(Fault::Block {
-            cause: BlockCause::Blank,
-            place: first,
-        });
+        return refuse(BlockCause::Blank, first);
     }
     Ok(())
 }

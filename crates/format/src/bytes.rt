@@ -1,10 +1,20 @@
 // Reading numbers and zeros out of a part of the file.
 ghost use mathlib.Core.Bool.{not};
 ghost use mathlib.Core.Path.{_≡_};
-ghost use Prim.Native.Nat.{_+_, _<_};
+ghost use Prim.Native.Nat.{_+_, _<_, _≤_};
 ghost use lib.ListN.{length};
-ghost use Rattle.format.specs.Layout.{number16, number32};
+ghost use Rattle.format.specs.Layout.{part, number16, number32, is-blank};
 ghost use Rattle.format.specs.Checks.{some-nonzero};
+use crate::layout::BLANK;
+
+// The `n` bytes from `at` on.
+pub(crate) fn cut(bytes: &[u8], at: usize, n: usize) -> &[u8]
+    requires { ⌜ at + n ≤ length (now bytes) ⌝ }
+    ensures bytes { λ r. ⌜ now r ≡ part (now (bytes .entry)) at n ⌝ }
+    ensures len { λ r. ⌜ length (now r) ≡ n ⌝ }
+{
+    &bytes[at..at + n]
+}
 
 // The number in the two bytes from `at` on.
 pub(crate) fn number16(part: &[u8], at: usize) -> u16
@@ -31,4 +41,11 @@ pub(crate) fn all_zero(part: &[u8]) -> bool
         }
     }
     true
+}
+
+pub(crate) fn is_blank(rec: &[u8]) -> bool
+    requires { ⌜ 0 < length (now rec) ⌝ }
+    ensures { λ r. ⌜ r ≡ is-blank (now (rec .entry)) ⌝ }
+{
+    rec[0] == BLANK
 }

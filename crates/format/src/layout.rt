@@ -25,6 +25,9 @@ pub(crate) const OUTCOME: u8 = 2;
 // A record's bytes between its step byte and its name.
 pub(crate) const FIELDS: usize = 40;
 
+// Where a record's name begins, behind the byte of its length.
+pub(crate) const NAME: usize = 43;
+
 pub(crate) const LONGEST_NAME: u8 = 13;
 
 pub(crate) const FIRST_PRINTABLE: u8 = 33;

@@ -7,10 +7,11 @@ ghost use Rattle.format.specs.Layout.{part, name-length};
 ghost use Rattle.format.specs.Refusals.{refusal-in, first-failing};
 ghost use Rattle.format.specs.Names.{name-checks, name-at};
 ghost use Rattle.format.specs.Changed.{One-changed-byte-is-refused};
+use crate::bytes::cut;
+use crate::bytes::is_blank;
 use crate::faults::CallCause;
 use crate::faults::Fault;
-use crate::layout::BLANK;
-use crate::layout::FIELDS;
+use crate::layout::NAME;
 use crate::reader::Reader;
 use crate::records::check_records;
 
@@ -19,14 +20,7 @@ fn name_in(rec: &[u8]) -> &[u8]
     requires { ⌜ (length (now rec) ≡ 56) × (name-length (now rec) ≤ 13) ⌝ }
     ensures { λ r. ⌜ now r ≡ part (now (rec .entry)) 43 (name-length (now (rec .entry))) ⌝ }
 {
-    let [_, _, rest @ ..] = rec else {
-        unreachable()
-    };
-    let (_, field) = rest.split_at(FIELDS);
-    let [len, text @ ..] = field else {
-        unreachable()
-    };
-    &text[0..usize::from(*len)]
+    cut(rec, NAME, usize::from(rec[NAME - 1]))
 }
 
 // The name of the record of that number: the bytes of the file that spell it.
@@ -41,7 +35,7 @@ pub fn name(file: &[u8], number: usize) -> Result<&[u8], Fault>
             cause: CallCause::NoRecord,
         });
     };
-    if record[0] == BLANK {
+    if is_blank(record) {
         return Err(Fault::Call {
             cause: CallCause::NoRecord,
         });

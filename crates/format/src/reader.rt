@@ -4,6 +4,7 @@ ghost use Prim.Native.Nat.{_+_, _<_, _≤_};
 ghost use lib.ListN.{length};
 ghost use Rattle.std.specs.Options.{Cases};
 ghost use Rattle.format.specs.Layout.{record-count, record-of};
+use crate::bytes::cut;
 use crate::layout::BLOCK;
 use crate::layout::HEADER;
 use crate::layout::RECORD;
@@ -41,6 +42,6 @@ impl<'a> Reader<'a> {
         self.place = place + 1;
         let at = BLOCK * (place / RECORDS_IN_BLOCK)
             + (HEADER + RECORD * (place % RECORDS_IN_BLOCK));
-        Some(&self.file[at..at + RECORD])
+        Some(cut(self.file, at, RECORD))
     }
 }

@@ -3,11 +3,12 @@ ghost use mathlib.Core.Bool.{not};
 ghost use mathlib.Core.List.{[], _∷_};
 ghost use mathlib.Core.Path.{_≡_};
 ghost use Prim.Native.Nat.{_<_, _≤_, _^_};
-ghost use lib.ListN.{length, drop};
+ghost use lib.ListN.{length};
+ghost use Rattle.std.specs.declared.result.Result.the-variants.{Err};
 ghost use Rattle.std.specs.Vec.{made};
-ghost use Rattle.format.specs.Layout.{byte};
+ghost use Rattle.format.specs.declared.faults.Fault.the-variants.{Record};
 ghost use Rattle.format.specs.Refusals.{refusal-in, first-failing, record-check};
-ghost use Rattle.format.specs.Checks.{wrong-kind, wrong-name-byte, wrong-name, wrong-step, wrong-outcome, name-field-checks};
+ghost use Rattle.format.specs.Checks.{wrong-kind, wrong-name-byte, wrong-text, wrong-step, wrong-outcome, name-field-checks};
 ghost use Rattle.format.specs.Checks.{record-checks, ahead-behind, contents-of, record-layer};
 use crate::blocks::check_blocks;
 use crate::bytes::all_zero;
@@ -51,13 +52,11 @@ fn name_byte_right(len: u8, i: usize, b: u8) -> bool
     }
 }
 
-fn name_right(len: u8, text: &[u8]) -> bool
+// Whether the field holds a name of that length and zeros behind it.
+fn text_right(len: u8, text: &[u8]) -> bool
     requires { ⌜ length (now text) ≡ 13 ⌝ }
-    ensures { λ r. ⌜ r ≡ not (wrong-name len (now (text .entry))) ⌝ }
+    ensures { λ r. ⌜ r ≡ not (wrong-text len (now (text .entry))) ⌝ }
 {
-    if len > LONGEST_NAME {
-        return false;
-    }
     for (i, b) in text.iter().enumerate() {
         if !name_byte_right(len, i, *b) {
             return false;
@@ -67,76 +66,62 @@ fn name_right(len: u8, text: &[u8]) -> bool
 }
 
 impl Ahead {
+    fn refuse(&self, cause: RecordCause) -> Result<(), Fault>
+        ensures { λ r. ⌜ r ≡ Err (Record cause (now (self .entry) .records)) ⌝ }
+    {
+        Err(Fault::Record {
+            cause,
+            place: self.records,
+        })
+    }
+
     fn kind_right(&self, kind: u8) -> bool
         ensures { λ r. ⌜ r ≡ not (wrong-kind (now (self .entry)) kind) ⌝ }
     {
         kind <= OUTCOME && !(kind == STEP && self.outcomes > 0)
     }
 
-    fn check_name(&self, name: &[u8]) -> Result<(), Fault>
-        requires { ⌜ length (now name) ≡ 14 ⌝ }
-        ensures { λ r. ⌜ refusal-in r ≡ first-failing (name-field-checks (now (self .entry) .records) (byte (now (name .entry)) 0) (drop 1 (now (name .entry)))) ⌝ }
+    fn check_name(&self, len: u8, text: &[u8]) -> Result<(), Fault>
+        requires { ⌜ length (now text) ≡ 13 ⌝ }
+        ensures { λ r. ⌜ refusal-in r ≡ first-failing (name-field-checks (now (self .entry) .records) len (now (text .entry))) ⌝ }
     {
-        let [len, text @ ..] = name else {
-            unreachable()
-        };
-        if *len == 0 {
-            return Err(Fault::Record {
-                cause: RecordCause::Unnamed,
-                place: self.records,
-            });
+        if len == 0 {
+            return self.refuse(RecordCause::Unnamed);
         }
-        if !name_right(*len, text) {
-            return Err(Fault::Record {
-                cause: RecordCause::Name,
-                place: self.records,
-            });
+        if len > LONGEST_NAME || !text_right(len, text) {
+            return self.refuse(RecordCause::Name);
         }
         Ok(())
     }
 
-    fn check_step(&self, step: u8, fields: &[u8]) -> Result<(), Fault>
-        requires { ⌜ length (now fields) ≡ 40 ⌝ }
-        ensures { λ r. ⌜ refusal-in r ≡ first-failing (record-check 8 (now (self .entry) .records) (wrong-step (now (self .entry)) step (byte (now (fields .entry)) 0) (drop 1 (now (fields .entry)))) ∷ []) ⌝ }
+    fn step_right(&self, step: u8, mask: u8, unused: &[u8]) -> bool
+        ensures { λ r. ⌜ r ≡ not (wrong-step (now (self .entry)) step mask (now (unused .entry))) ⌝ }
     {
-        if !self.step_right(step, fields) {
-            return Err(Fault::Record {
-                cause: RecordCause::Step,
-                place: self.records,
-            });
-        }
-        Ok(())
+        usize::from(step) == self.steps && step <= GREATEST_STEP && mask != 0 && all_zero(unused)
     }
 
-    fn check_outcome(&self, step: u8) -> Result<(), Fault>
-        ensures { λ r. ⌜ refusal-in r ≡ first-failing (record-check 9 (now (self .entry) .records) (wrong-outcome (now (self .entry)) step) ∷ []) ⌝ }
+    fn check_step(&self, step: u8, mask: u8, unused: &[u8]) -> Result<(), Fault>
+        ensures { λ r. ⌜ refusal-in r ≡ first-failing (record-check 8 (now (self .entry) .records) (wrong-step (now (self .entry)) step mask (now (unused .entry))) ∷ []) ⌝ }
     {
-        if !self.outcome_right(step) {
-            return Err(Fault::Record {
-                cause: RecordCause::Outcome,
-                place: self.records,
-            });
+        if !self.step_right(step, mask, unused) {
+            return self.refuse(RecordCause::Step);
         }
         Ok(())
-    }
-
-    fn step_right(&self, step: u8, fields: &[u8]) -> bool
-        requires { ⌜ length (now fields) ≡ 40 ⌝ }
-        ensures { λ r. ⌜ r ≡ not (wrong-step (now (self .entry)) step (byte (now (fields .entry)) 0) (drop 1 (now (fields .entry)))) ⌝ }
-    {
-        let [mask, unused @ ..] = fields else {
-            unreachable()
-        };
-        if usize::from(step) != self.steps || step > GREATEST_STEP || *mask == 0 {
-            return false;
-        }
-        all_zero(unused)
     }
 
     fn outcome_right(&self, step: u8) -> bool
         ensures { λ r. ⌜ r ≡ not (wrong-outcome (now (self .entry)) step) ⌝ }
     {
         self.outcomes < MOST_OUTCOMES && usize::from(step) + 1 < self.steps && step >= self.floor
+    }
+
+    fn check_outcome(&self, step: u8) -> Result<(), Fault>
+        ensures { λ r. ⌜ refusal-in r ≡ first-failing (record-check 9 (now (self .entry) .records) (wrong-outcome (now (self .entry)) step) ∷ []) ⌝ }
+    {
+        if !self.outcome_right(step) {
+            return self.refuse(RecordCause::Outcome);
+        }
+        Ok(())
     }
 
     // The checks of the next record, in their order.
@@ -151,15 +136,12 @@ impl Ahead {
             return Ok(());
         }
         if !self.kind_right(*kind) {
-            return Err(Fault::Record {
-                cause: RecordCause::Kind,
-                place: self.records,
-            });
+            return self.refuse(RecordCause::Kind);
         }
         let (fields, name) = rest.split_at(FIELDS);
-        self.check_name(name)?;
+        self.check_name(name[0], &name[1..])?;
         if *kind == STEP {
-            self.check_step(*step, fields)
+            self.check_step(*step, fields[0], &fields[1..])
         } else {
             self.check_outcome(*step)
         }

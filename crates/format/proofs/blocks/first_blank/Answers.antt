@@ -2,7 +2,6 @@ use borrow.Author.Count.{below-more}
 use mathlib.Core.Path.{_≡_, sym, ap, _∙_}
 use Prim.Native.Nat.{_<_}
 use native.Mathlib.Omega.{arith}
-use Rattle.std.proofs.shelf.Tests.{eq-eqb, ne-eqb}
 use Rattle.format.specs.Layout.{record-count, record-of, is-blank}
 use Rattle.format.proofs.Below.{first-is, first-none}
 use Rattle.format.proofs.blocks.first_blank.Needs as need
@@ -15,13 +14,13 @@ here c = let read = c .in-Some .ensures tt .read .2 in cc (read, c .loop-record 
 more : (c : In-Some) → c .loop-record .first < record-count (c .args .file .now)
 more c = rw (sym (c .loop-record .inv .0), sym (c .loop-record .inv .1)) (c .in-Some .ensures tt .read .0)
 
-pub returns-then-record-eq-BLANK : need.returns-then-record-eq-BLANK
-returns-then-record-eq-BLANK c =
-    let at = need.at·returns-then-record-eq-BLANK c .In-Some in
+pub returns-then-is-blank : need.returns-then-is-blank
+returns-then-is-blank c =
+    let at = need.at·returns-then-is-blank c .In-Some in
     let file = c .args .file .now in
     sym (first-is (record-count file) (λ r. is-blank (record-of file r)) (c .loop-record .first)
     (more at)
-    (sym (ap is-blank (here at)) ∙ eq-eqb _ 0 (c .if-record-eq-BLANK .taken))
+    (sym (ap is-blank (here at)) ∙ sym (c .if-is-blank .ensures tt))
     (c .loop-record .inv .3))
 
 pub loop-record-again : need.loop-record-again
@@ -31,7 +30,7 @@ loop-record-again c =
       cc (c .in-Some .ensures tt .file, c .loop-record .inv .0),
       omega (arith, read .1, c .loop-record .inv .1),
       omega (arith, more at),
-      below-more _ _ (c .loop-record .inv .3) (sym (ap is-blank (here at)) ∙ ne-eqb _ 0 (c .if-record-eq-BLANK .left)),
+      below-more _ _ (c .loop-record .inv .3) (sym (ap is-blank (here at)) ∙ sym (c .if-is-blank .ensures tt)),
     )
 
 pub returns : need.returns

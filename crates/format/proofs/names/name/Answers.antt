@@ -5,7 +5,7 @@ use Prim.Native.Nat.{_+_, _<_, _≤_}
 use native.Mathlib.Omega.{arith}
 use Rattle.std.specs.declared.option.Option.the-variants.{None}
 use Rattle.std.proofs.shelf.Results.{err-from-errBy}
-use Rattle.std.proofs.shelf.Tests.{cond-true, cond-false, le-leb, lt-leb, eq-eqb, ne-eqb, or-left, or-right, or-from}
+use Rattle.std.proofs.shelf.Tests.{cond-true, cond-false, le-leb, lt-leb, or-left, or-right, or-from}
 use Rattle.format.specs.Layout.{part, record-count, record-at, record-of, is-blank, name-length}
 use Rattle.format.specs.Refusals.{first-failing, each-below, call-check}
 use Rattle.format.specs.Checks.{block-layer, record-layer, record-checks-at, ahead-of}
@@ -15,7 +15,7 @@ use Rattle.format.proofs.First.{past, stops, none-parts, each-at}
 use Rattle.format.proofs.OneByteInFile.{changed-byte-refused}
 use Rattle.format.proofs.RecordLayer.{name-fits}
 use Rattle.format.proofs.names.name.Needs as need
-use Rattle.format.proofs.names.name.Needs.{In-Continue-check-records, In-Some, Else-record-eq-BLANK}
+use Rattle.format.proofs.names.name.Needs.{In-Continue-check-records, In-Some, Else-is-blank}
 
 -- both layers passed, so only the number can be wrong
 only-number : (c : In-Continue-check-records) → first-failing (name-checks (c .args .file .now) (c .args .number)) ≡ first-failing (call-check 22 (no-such-record (c .args .file .now) (c .args .number)) ∷ [])
@@ -27,15 +27,15 @@ read c = cc (c .in-Some .ensures tt .read .2, c .at .ensures .file, c .at .ensur
 inside : (c : In-Some) → c .args .number < record-count (c .args .file .now)
 inside c = rw (sym (c .at .ensures .file), sym (c .at .ensures .place)) (c .in-Some .ensures tt .read .0)
 
-some-kind : (c : Else-record-eq-BLANK) → is-blank (record-of (c .args .file .now) (c .args .number)) ≡ false
-some-kind c = ap is-blank (sym (read (need.at·Else-record-eq-BLANK c .In-Some))) ∙ ne-eqb _ 0 (c .if-record-eq-BLANK .left)
+some-kind : (c : Else-is-blank) → is-blank (record-of (c .args .file .now) (c .args .number)) ≡ false
+some-kind c = ap is-blank (sym (read (need.at·Else-is-blank c .In-Some))) ∙ sym (c .if-is-blank .ensures tt)
 
-short : (c : Else-record-eq-BLANK) → name-length (record-of (c .args .file .now) (c .args .number)) ≤ 13
+short : (c : Else-is-blank) → name-length (record-of (c .args .file .now) (c .args .number)) ≤ 13
 short c =
     let file = c .args .file .now in
     let layers = none-parts (block-layer file) (each-below (record-count file) (record-checks-at file)) (sym (c .in-Continue-check-records .ensures tt .refused)) in
     name-fits (ahead-of file (c .args .number)) (record-of file (c .args .number)) (some-kind c)
-    (each-at (record-count file) (record-checks-at file) (c .args .number) (inside (need.at·Else-record-eq-BLANK c .In-Some)) (layers .1))
+    (each-at (record-count file) (record-checks-at file) (c .args .number) (inside (need.at·Else-is-blank c .In-Some)) (layers .1))
 
 pub returns-in-Break-check-records : need.returns-in-Break-check-records
 returns-in-Break-check-records c =
@@ -52,12 +52,12 @@ returns-in-rest c =
       guarded = changed-byte-refused file (c .args .number);
     }
 
-pub returns-then-record-eq-BLANK : need.returns-then-record-eq-BLANK
-returns-then-record-eq-BLANK c =
+pub returns-then-is-blank : need.returns-then-is-blank
+returns-then-is-blank c =
     let file = c .args .file .now in
-    let blank = ap is-blank (sym (read (need.at·returns-then-record-eq-BLANK c .In-Some))) ∙ eq-eqb _ 0 (c .if-record-eq-BLANK .taken) in
+    let blank = ap is-blank (sym (read (need.at·returns-then-is-blank c .In-Some))) ∙ sym (c .if-is-blank .ensures tt) in
     record {
-      refused = sym (only-number (need.at·returns-then-record-eq-BLANK c .In-Continue-check-records) ∙ cond-true (no-such-record file (c .args .number)) _ _ (or-right _ _ blank));
+      refused = sym (only-number (need.at·returns-then-is-blank c .In-Continue-check-records) ∙ cond-true (no-such-record file (c .args .number)) _ _ (or-right _ _ blank));
       named = tt;
       guarded = changed-byte-refused file (c .args .number);
     }
@@ -65,7 +65,7 @@ returns-then-record-eq-BLANK c =
 pub name-in-requires : need.name-in-requires
 name-in-requires c κs =
     let at = need.at·name-in-requires c in
-    (c .in-Some .ensures tt .read .3, rw (read (at .In-Some)) (short (at .Else-record-eq-BLANK)))
+    (c .in-Some .ensures tt .read .3, rw (read (at .In-Some)) (short (at .Else-is-blank)))
 
 pub returns : need.returns
 returns c =
@@ -76,11 +76,11 @@ returns c =
     record {
       refused =
           sym (only-number (at .In-Continue-check-records)
-          ∙ cond-false (no-such-record file number) _ _ (or-from _ _ (lt-leb _ _ (inside (at .In-Some))) (some-kind (at .Else-record-eq-BLANK))));
+          ∙ cond-false (no-such-record file number) _ _ (or-from _ _ (lt-leb _ _ (inside (at .In-Some))) (some-kind (at .Else-is-blank))));
       named =
           c .name-in .ensures
           ∙ ap (λ rec. part rec 43 (name-length rec)) (read (at .In-Some))
-          ∙ part-part file (record-at number) 56 43 (name-length (record-of file number)) (omega (arith, short (at .Else-record-eq-BLANK)))
+          ∙ part-part file (record-at number) 56 43 (name-length (record-of file number)) (omega (arith, short (at .Else-is-blank)))
           ∙ ap (part file (record-at number + 43)) len;
       guarded = changed-byte-refused file number;
     }

@@ -25,7 +25,7 @@ same-name : (c : After-check-name) → first-failing (named (c .args .self .now)
 same-name c =
     let rec = c .args .rec .now in
     let cut = c .split-at .ensures .back ∙ ap (drop 40) (take-rest rec 2) in
-    rw (sym (cut-length rec _ cut), sym (cut-text rec _ cut)) (sym (c .check-name .ensures))
+    rw (sym (cut-length rec _ cut), sym (take-rest (c .split-at .result .1 .now) 1 ∙ cut-text rec _ cut)) (sym (c .check-name .ensures))
 
 -- with a right name the step or the outcome is left to check
 past-names : (c : In-Continue-check-name) → first-failing (named (c .args .self .now) (c .args .rec .now)) ≡ None
@@ -48,7 +48,7 @@ returns-then-kind-eq-STEP c =
     let other : is-outcome rec ≡ false = ne-eqb (kind-of rec) 2 (omega (arith, c .if-kind-eq-STEP .taken)) in
     sym (past-name self rec (some-kind at) (right-kind at) (past-names on)
     ∙ step-left self rec (eq-eqb _ 1 (c .if-kind-eq-STEP .taken)) other
-    ∙ rw (sym (cut-mask rec _ cut), sym (cut-unused rec _ cut)) (sym (c .check-step .ensures)))
+    ∙ rw (sym (cut-mask rec _ cut), sym (take-rest (c .split-at .result .0 .now) 1 ∙ cut-unused rec _ cut)) (sym (c .check-step .ensures)))
 
 pub returns-else-kind-eq-STEP : need.returns-else-kind-eq-STEP
 returns-else-kind-eq-STEP c =
