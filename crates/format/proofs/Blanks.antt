@@ -8,10 +8,10 @@ use lib.Dec.{leb}
 use lib.ListN.{length}
 use Rattle.std.proofs.shelf.Lists.{getD-past}
 use Rattle.std.proofs.shelf.Tests.{both-ways, cases-bool, cases-lt, cases-order, eq-eqb, le-leb, lt-leb, leb-true, and-from, and-left, and-right, and-parts, or-from, or-left, or-right}
-use Rattle.format.specs.Below.{count-below, some-below}
+use Rattle.numbers.specs.Below.{count-below, some-below}
 use Rattle.format.specs.Layout.{Bytes, byte, record-count, record-of, is-blank}
 use Rattle.format.specs.Checks.{some-nonzero, first-blank, blanks-wrong}
-use Rattle.format.proofs.Below.{Least, first-tells, some-found, some-none, some-at, none-at, count-from}
+use Rattle.numbers.proofs.BelowLaws.{Least, first-tells, some-found, some-none, some-at, none-at, count-from}
 use Rattle.format.proofs.Zeros.{zero-at}
 
 -- a record of zeros is blank

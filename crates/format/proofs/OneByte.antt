@@ -9,7 +9,7 @@ use lib.Dec.{eqb}
 use lib.ListN.{length, set}
 use lib.Seq.{getD-set-same, getD-set-other}
 use Rattle.std.proofs.shelf.Tests.{cases-eq, cases-lt, cases-order, eqb-true, ne-eqb, not-false}
-use Rattle.format.specs.Below.{sum-below}
+use Rattle.numbers.specs.Below.{sum-below}
 use Rattle.format.specs.Layout.{Bytes, byte, number32, check-sum}
 use Rattle.format.specs.Checks.{wrong-check}
 use Rattle.format.specs.Changed.{One-changed-byte-breaks-the-check}

@@ -10,12 +10,12 @@ use lib.ListN.{getD, take, drop}
 use Rattle.std.specs.declared.option.Option.the-variants.{Some, None}
 use Rattle.std.proofs.shelf.Lists.{getD-drop, getD-take, drop-drop, drop-take}
 use Rattle.std.proofs.shelf.Tests.{cond-false, cond-both, and-left, ltb-false, or-parts}
-use Rattle.format.specs.Below.{sum-below, count-below, some-below}
+use Rattle.numbers.specs.Below.{sum-below, count-below, some-below}
 use Rattle.format.specs.Layout.{Bytes, byte, record-of, kind-of, is-blank, is-step, is-outcome, step-of, mask-of, unused-of, name-length, name-field, floor-at}
 use Rattle.format.specs.Refusals.{Check, first-failing, record-check}
 use Rattle.format.specs.Checks.{wrong-kind, no-name, wrong-name-byte, wrong-name, wrong-step, wrong-outcome, name-field-checks, record-checks, ahead-of, ahead-behind}
 use Rattle.format.specs.declared.records.Ahead.{Ahead}
-use Rattle.format.proofs.Below.{sum-more}
+use Rattle.numbers.proofs.BelowLaws.{sum-more}
 use Rattle.format.proofs.First.{past, none-first, none-parts}
 use Rattle.format.proofs.Tests.{or-skip, and-skip}
 

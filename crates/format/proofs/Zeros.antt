@@ -7,7 +7,7 @@ use lib.ListN.{length, getD}
 use Rattle.std.proofs.shelf.Tests.{eq-eqb, ne-eqb, eqb-true, not-false}
 use Rattle.format.specs.Layout.{Bytes}
 use Rattle.format.specs.Checks.{some-nonzero}
-use Rattle.format.proofs.Below.{some-found, some-none, none-at}
+use Rattle.numbers.proofs.BelowLaws.{some-found, some-none, none-at}
 
 pub nonzero-found : (bs : Bytes) (i : ℕ) → i < length bs → (getD bs i 0 ≡ 0 → ⊥) → some-nonzero bs ≡ true
 nonzero-found bs i lt ne = some-found (length bs) (λ k. not (eqb (getD bs k 0) 0)) i lt (ap not (ne-eqb (getD bs i 0) 0 ne))

@@ -4,7 +4,7 @@ use mathlib.Core.List.{List}
 use Prim.Native.Nat.{ℕ, zero, suc, _+_, _*_, _/_, _%_}
 use lib.Dec.{eqb}
 use lib.ListN.{length, getD, take, drop}
-use Rattle.format.specs.Below.{sum-below, count-below}
+use Rattle.numbers.specs.Below.{sum-below, count-below}
 
 -- a file's bytes, or a part of them
 abbrev pub Bytes : Type 0

@@ -1,4 +1,3 @@
-pub mod Below
 pub mod Layout
 pub mod Refusals
 pub mod Checks

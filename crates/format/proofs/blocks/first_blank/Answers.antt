@@ -3,7 +3,7 @@ use mathlib.Core.Path.{_≡_, sym, ap, _∙_}
 use Prim.Native.Nat.{_<_}
 use native.Mathlib.Omega.{arith}
 use Rattle.format.specs.Layout.{record-count, record-of, is-blank}
-use Rattle.format.proofs.Below.{first-is, first-none}
+use Rattle.numbers.proofs.BelowLaws.{first-is, first-none}
 use Rattle.format.proofs.blocks.first_blank.Needs as need
 use Rattle.format.proofs.blocks.first_blank.Needs.{In-Some}
 

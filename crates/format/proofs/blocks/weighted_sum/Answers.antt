@@ -2,9 +2,9 @@ use mathlib.Core.Path.{_≡_, refl, sym, ap, _∙_}
 use Prim.Native.Nat.{ℕ, _+_, _*_, _≤_}
 use native.Mathlib.Omega.{arith}
 use Rattle.std.proofs.shelf.Bits.{mul-le}
-use Rattle.format.specs.Below.{sum-below}
+use Rattle.numbers.specs.Below.{sum-below}
 use Rattle.format.specs.Layout.{byte}
-use Rattle.format.proofs.Below.{sum-more}
+use Rattle.numbers.proofs.BelowLaws.{sum-more}
 use Rattle.format.proofs.blocks.weighted_sum.Needs as need
 use Rattle.format.proofs.blocks.weighted_sum.Needs.{After-from}
 

@@ -1,6 +1,6 @@
 use Prim.Native.Nat.{_+_, _*_, _≤_}
 use mathlib.Core.Path.{_≡_}
-use Rattle.format.specs.Below.{sum-below}
+use Rattle.numbers.specs.Below.{sum-below}
 use Rattle.format.specs.Layout.{byte}
 use Rattle.format.proofs.blocks.weighted_sum.Given as given
 

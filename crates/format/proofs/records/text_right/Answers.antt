@@ -5,7 +5,7 @@ use native.Mathlib.Omega.{arith}
 use Rattle.std.proofs.shelf.Tests.{not-false}
 use Rattle.format.specs.Layout.{byte}
 use Rattle.format.specs.Checks.{wrong-name-byte}
-use Rattle.format.proofs.Below.{some-found, some-none}
+use Rattle.numbers.proofs.BelowLaws.{some-found, some-none}
 use Rattle.format.proofs.records.text_right.Needs as need
 
 pub returns-then-not-name-byte-right : need.returns-then-not-name-byte-right

@@ -7,11 +7,15 @@ use native.Mathlib.Nat.{add-zero}
 use native.Mathlib.Numerals.{add-one}
 use native.Mathlib.Omega.{arith}
 use Rattle.std.proofs.shelf.Tests.{false≢true, both-ways, cases-bool, cases-lt, cases-order, or-from, or-parts, or-left, or-right, or-cases, cond-true, cond-false, cond-both}
-use Rattle.format.specs.Below.{sum-below, count-below, some-below, first-below}
+use Rattle.numbers.specs.Below.{sum-below, count-below, some-below, first-below}
 
 pub sum-more : (n : ℕ) (f : ℕ → ℕ) → sum-below (n + 1) f ≡ sum-below n f + f n
 unfolding sum-below
 sum-more n f = rw add-one
+
+pub some-more : (n : ℕ) (p : ℕ → Bool) → some-below (n + 1) p ≡ (p n || some-below n p)
+unfolding some-below
+some-more n p = rw add-one
 
 pub some-found : (n : ℕ) (p : ℕ → Bool) (k : ℕ) → k < n → p k ≡ true → some-below n p ≡ true
 unfolding some-below

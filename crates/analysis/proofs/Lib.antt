@@ -1,0 +1,4 @@
+pub mod CostLaws
+pub mod FlagPairs
+pub mod FlagFlips
+pub mod FlagsLaws

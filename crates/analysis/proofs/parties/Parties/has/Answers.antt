@@ -1,0 +1,17 @@
+use mathlib.Core.Path.{sym, ap, _∙_}
+use native.Mathlib.Omega.{arith}
+use lib.Dec.{eqb}
+use lib.Pow.{pow-mono}
+use Prim.Native.Nat.{_≤_, _^_}
+use Rattle.std.proofs.shelf.Bits.{and-mask}
+use Rattle.std.proofs.shelf.Tests.{le-ltb}
+use Rattle.numbers.proofs.BitLaws.{bit-above}
+use Rattle.analysis.proofs.parties.Parties.has.Needs as need
+
+pub returns-then-party-lt8 : need.returns-then-party-lt8
+returns-then-party-lt8 c = ap (λ n. eqb n 1) (and-mask _ 1)
+
+pub returns-else-party-lt8 : need.returns-else-party-lt8
+returns-else-party-lt8 c =
+    let wide : 2 ^ 8 ≤ 2 ^ c .args .party = pow-mono (c .if-party-lt8 .left) in
+    le-ltb (c .args .party) 8 (c .if-party-lt8 .left) ∙ sym (bit-above (c .args .self .mask) (c .args .party) (omega arith))

@@ -1,0 +1,6 @@
+pub mod Parties
+pub mod Algebra
+pub mod LabelBytes
+pub mod CostAlgebra
+pub mod FlagsAlgebra
+pub mod FlagsMeaning
