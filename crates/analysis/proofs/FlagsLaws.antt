@@ -1,5 +1,5 @@
 -- Flags keep the laws.
-use mathlib.Core.Bool.{Bool, true, false, cond, not, _&&_, _||_}
+use mathlib.Core.Bool.{Bool, true, false, cond, not, _&&_, _||_, or-assoc, or-comm, or-self}
 use mathlib.Core.Logic.{_⊎_, inl, inr, ⊎-elim}
 use mathlib.Core.Path.{_≡_, refl, sym, ap, subst, _∙_}
 use Prim.Native.Nat.{ℕ, _/_, _%_, _^_, _<_}
@@ -25,20 +25,6 @@ united x y = related (λ v w. may x v w || may y v w) .relation
 
 abbrev same : ℕ
 same = related (λ v w. eqb v w) .relation
-
-or-associative : (a b c : Bool) → ((a || b) || c) ≡ (a || (b || c))
-or-associative true b c = refl
-or-associative false b c = refl
-
-or-commutative : (a b : Bool) → (a || b) ≡ (b || a)
-or-commutative true true = refl
-or-commutative true false = refl
-or-commutative false true = refl
-or-commutative false false = refl
-
-or-idempotent : (a : Bool) → (a || a) ≡ a
-or-idempotent true = refl
-or-idempotent false = refl
 
 may-composed : (x y v w : ℕ) → v < 8 → w < 8 → may (composed x y) v w ≡ through x y v w
 may-composed x y v w vl wl = may-related (through x y) v w vl wl
@@ -188,10 +174,10 @@ flags-laws =
       then-unit = λ x. related-same _ _ (same-last (x .relation)) ∙ related-self x;
       either-associative = λ x y z. related-same _ _ (λ v w vl wl.
           ap (λ b. b || may (z .relation) v w) (may-united (x .relation) (y .relation) v w vl wl)
-          ∙ or-associative (may (x .relation) v w) (may (y .relation) v w) (may (z .relation) v w)
+          ∙ or-assoc (may (x .relation) v w) (may (y .relation) v w) (may (z .relation) v w)
           ∙ sym (ap (λ b. may (x .relation) v w || b) (may-united (y .relation) (z .relation) v w vl wl)));
-      either-commutative = λ x y. related-same _ _ (λ v w vl wl. or-commutative (may (x .relation) v w) (may (y .relation) v w));
-      either-idempotent = λ x. related-same _ _ (λ v w vl wl. or-idempotent (may (x .relation) v w)) ∙ related-self x;
+      either-commutative = λ x y. related-same _ _ (λ v w vl wl. or-comm (may (x .relation) v w) (may (y .relation) v w));
+      either-idempotent = λ x. related-same _ _ (λ v w vl wl. or-self (may (x .relation) v w)) ∙ related-self x;
       then-either = λ x y z. related-same _ _ (composed-united (x .relation) (y .relation) (z .relation));
       either-then = λ x y z. related-same _ _ (united-composed (x .relation) (y .relation) (z .relation));
       unit-belongs = λ P. same-stays P;

@@ -13,6 +13,6 @@ impl Parties {
     pub fn has(self, party: u8) -> bool
         ensures { λ r. ⌜ r ≡ members self party ⌝ }
     {
-        party < 8 && (self.mask >> party) & 1 == 1
+        party < 8 && (self.mask >> party) % 2 == 1
     }
 }

@@ -122,3 +122,7 @@ from-bits-same (suc n) p q h =
     let here : cond (p n) (2 ^ n) 0 ≡ cond (q n) (2 ^ n) 0 = ap (λ b. cond b (2 ^ n) 0) (h n (omega arith)) in
     let rest = from-bits-same n p q (λ k lt. h k (omega arith)) in
     omega arith
+
+-- numbers with the same bits are equal
+pub bits-same : (n x y : ℕ) → x < 2 ^ n → y < 2 ^ n → ((k : ℕ) → k < n → bit x k ≡ bit y k) → x ≡ y
+bits-same n x y xl yl same = sym (from-bits-self n x xl) ∙ from-bits-same n (bit x) (bit y) same ∙ from-bits-self n y yl

@@ -2,12 +2,17 @@
 ghost use mathlib.Core.Path.{_≡_};
 ghost use Rattle.analysis.specs.declared.cost.Cost.{Cost};
 ghost use Rattle.analysis.specs.CostAlgebra.{cost-algebra, capped};
-ghost use Rattle.analysis.specs.LabelBytes.{least-in, most-in};
 use crate::cost::Cost;
 use crate::kind::Kind;
+use crate::label_bytes::number32;
 use crate::parties::Parties;
 
 const LIMIT: u32 = 1_000_000;
+
+// Where the label bytes have the two halves.
+const LEAST_AT: usize = 0;
+
+const MOST_AT: usize = 4;
 
 // Both halves, each stopping at the limit.
 fn capped(least: u32, most: u32) -> Cost
@@ -17,18 +22,6 @@ fn capped(least: u32, most: u32) -> Cost
         least: least.min(LIMIT),
         most: most.min(LIMIT),
     }
-}
-
-fn least_in(bytes: &[u8; 32]) -> u32
-    ensures { λ r. ⌜ r ≡ least-in (now (bytes .entry)) ⌝ }
-{
-    u32::from_be_bytes([bytes[0], bytes[1], bytes[2], bytes[3]])
-}
-
-fn most_in(bytes: &[u8; 32]) -> u32
-    ensures { λ r. ⌜ r ≡ most-in (now (bytes .entry)) ⌝ }
-{
-    u32::from_be_bytes([bytes[4], bytes[5], bytes[6], bytes[7]])
 }
 
 pub impl Kind for Cost as CostKind {
@@ -55,12 +48,14 @@ pub impl Kind for Cost as CostKind {
     }
 
     fn suits(bytes: &[u8; 32], _parties: Parties) -> bool {
-        least_in(bytes) <= most_in(bytes) && most_in(bytes) <= LIMIT
+        let least = number32(bytes, LEAST_AT);
+        let most = number32(bytes, MOST_AT);
+        least <= most && most <= LIMIT
     }
 
     fn make(bytes: &[u8; 32], parties: Parties) -> Cost {
         if CostKind::suits(bytes, parties) {
-            capped(least_in(bytes), most_in(bytes))
+            capped(number32(bytes, LEAST_AT), number32(bytes, MOST_AT))
         } else {
             CostKind::unit()
         }

@@ -4,13 +4,13 @@ ghost use mathlib.Core.Path.{_≡_};
 ghost use Prim.Native.Nat.{_<_, _/_, _%_};
 ghost use Rattle.numbers.specs.Below.{some-below};
 ghost use Rattle.numbers.specs.Bits.{from-bits};
-ghost use Rattle.analysis.specs.LabelBytes.{relation-in};
 ghost use Rattle.analysis.specs.Parties.{members};
 ghost use Rattle.analysis.specs.declared.flags.Flags.{Flags};
 ghost use Rattle.analysis.specs.FlagsAlgebra.{may, through, same-flag, flipped, strays, stays-within, flags-algebra};
 ghost use Rattle.analysis.specs.FlagsMeaning.{Composition-is-relational, Worked-composition};
 use crate::flags::Flags;
 use crate::kind::Kind;
+use crate::label_bytes::number64;
 use crate::parties::Parties;
 
 const VALUES: u8 = 8;
@@ -18,6 +18,9 @@ const VALUES: u8 = 8;
 const PAIRS: u8 = 64;
 
 const FLAGS: u8 = 3;
+
+// Where the label bytes have the relation.
+const RELATION_AT: usize = 8;
 
 // Each value may become itself.
 const SAME: u64 = 0x8040_2010_0804_0201;
@@ -119,22 +122,6 @@ fn stays_within(relation: u64, parties: Parties) -> bool
     true
 }
 
-// The relation in the label bytes.
-fn relation_in(bytes: &[u8; 32]) -> u64
-    ensures { λ r. ⌜ r ≡ relation-in (now (bytes .entry)) ⌝ }
-{
-    u64::from_be_bytes([
-        bytes[8],
-        bytes[9],
-        bytes[10],
-        bytes[11],
-        bytes[12],
-        bytes[13],
-        bytes[14],
-        bytes[15],
-    ])
-}
-
 pub impl Kind for Flags as FlagsKind {
     ghost Value = { Flags };
 
@@ -163,11 +150,11 @@ pub impl Kind for Flags as FlagsKind {
     }
 
     fn suits(bytes: &[u8; 32], parties: Parties) -> bool {
-        stays_within(relation_in(bytes), parties)
+        stays_within(number64(bytes, RELATION_AT), parties)
     }
 
     fn make(bytes: &[u8; 32], parties: Parties) -> Flags {
-        let relation = relation_in(bytes);
+        let relation = number64(bytes, RELATION_AT);
         if !stays_within(relation, parties) {
             return FlagsKind::unit();
         }

@@ -1,15 +1,10 @@
-use mathlib.Core.Path.{sym, ap, _∙_}
-use native.Mathlib.Omega.{arith}
-use lib.Dec.{eqb}
-use lib.Pow.{pow-mono}
+use mathlib.Core.Path.{sym, _∙_}
 use Prim.Native.Nat.{_≤_, _^_}
-use Rattle.std.proofs.shelf.Bits.{and-mask}
+use native.Mathlib.Omega.{arith}
+use lib.Pow.{pow-mono}
 use Rattle.std.proofs.shelf.Tests.{le-ltb}
 use Rattle.numbers.proofs.BitLaws.{bit-above}
 use Rattle.analysis.proofs.parties.Parties.has.Needs as need
-
-pub returns-then-party-lt8 : need.returns-then-party-lt8
-returns-then-party-lt8 c = ap (λ n. eqb n 1) (and-mask _ 1)
 
 pub returns-else-party-lt8 : need.returns-else-party-lt8
 returns-else-party-lt8 c =

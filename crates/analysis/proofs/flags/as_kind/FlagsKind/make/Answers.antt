@@ -10,10 +10,10 @@ pub returns-then-not-stays-within : need.returns-then-not-stays-within
 returns-then-not-stays-within c =
     let P = members (c .args .parties) in
     c .unit .ensures
-    ∙ sym (cond-false (stays-within (relation-in (c .args .bytes .now)) P) _ _ (sym (ap (λ r. stays-within r P) (c .relation-in-relation .ensures)) ∙ sym (c .if-not-stays-within .ensures tt)))
+    ∙ sym (cond-false (stays-within (relation-in (c .args .bytes .now)) P) _ _ (sym (ap (λ r. stays-within r P) (c .number64-relation .ensures)) ∙ sym (c .if-not-stays-within .ensures tt)))
 
 pub returns : need.returns
 returns c =
     let P = members (c .args .parties) in
-    same-flags _ _ (c .relation-in-relation .ensures)
-    ∙ sym (cond-true (stays-within (relation-in (c .args .bytes .now)) P) _ _ (sym (ap (λ r. stays-within r P) (c .relation-in-relation .ensures)) ∙ sym (c .if-not-stays-within .ensures tt)))
+    same-flags _ _ (c .number64-relation .ensures)
+    ∙ sym (cond-true (stays-within (relation-in (c .args .bytes .now)) P) _ _ (sym (ap (λ r. stays-within r P) (c .number64-relation .ensures)) ∙ sym (c .if-not-stays-within .ensures tt)))
