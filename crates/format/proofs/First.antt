@@ -9,7 +9,8 @@ use native.Mathlib.Omega.{arith}
 use Rattle.std.specs.declared.option.Option.{Option}
 use Rattle.std.specs.declared.option.Option.the-variants.{Some, None}
 use Rattle.std.proofs.shelf.Tests.{cases-order}
-use Rattle.format.specs.Refusals.{Refusal, Check, first-failing, each-below}
+use Rattle.format.specs.Refusals.{Refusal, Check, first-failing}
+use Rattle.numbers.specs.Below.{each-below}
 
 -- the first answer, else the second
 abbrev pub or-else : Option Refusal → Option Refusal → Option Refusal

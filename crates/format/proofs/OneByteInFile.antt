@@ -10,7 +10,8 @@ use lib.Seq.{drop-set-add, take-set-le, take-set-lt}
 use Rattle.std.specs.declared.option.Option.the-variants.{Some, None}
 use Rattle.std.proofs.shelf.Tests.{cond-true, cond-false, eqb-true, not-false, or-parts}
 use Rattle.format.specs.Layout.{Bytes, byte, block-count, block-of, record-count}
-use Rattle.format.specs.Refusals.{Check, first-failing, each-below, block-check, call-check}
+use Rattle.format.specs.Refusals.{Check, first-failing, block-check, call-check}
+use Rattle.numbers.specs.Below.{each-below}
 use Rattle.format.specs.Checks.{wrong-length, wrong-check, wrong-header, first-blank, blanks-wrong, block-checks-at, block-layer, record-layer, record-checks-at}
 use Rattle.format.specs.Names.{no-such-record}
 use Rattle.format.specs.Changed.{One-changed-byte-is-refused}

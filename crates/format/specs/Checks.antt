@@ -4,9 +4,9 @@ use mathlib.Core.List.{List, [], _∷_, _++_}
 use Prim.Native.Nat.{ℕ, _+_, _%_}
 use lib.Dec.{eqb, ltb, leb}
 use lib.ListN.{length}
-use Rattle.numbers.specs.Below.{count-below, some-below, first-below}
+use Rattle.numbers.specs.Below.{count-below, some-below, first-below, each-below}
 use Rattle.format.specs.Layout.{Bytes, byte, number16, number32, block-count, block-of, check-sum, record-count, record-of, is-blank, is-step, is-outcome, kind-of, step-of, mask-of, unused-of, name-length, name-field, steps-ahead, outcomes-ahead, floor-at}
-use Rattle.format.specs.Refusals.{Check, block-check, record-check, call-check, each-below}
+use Rattle.format.specs.Refusals.{Check, block-check, record-check, call-check}
 use Rattle.format.specs.declared.records.Ahead.{Ahead}
 use Rattle.format.specs.declared.records.Contents.{Contents}
 

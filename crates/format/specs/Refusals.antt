@@ -1,7 +1,7 @@
 -- Refusals by number, layer and place, and the first check that fails.
 use mathlib.Core.Bool.{Bool, cond}
-use mathlib.Core.List.{List, [], _∷_, _++_}
-use Prim.Native.Nat.{ℕ, zero, suc}
+use mathlib.Core.List.{List, [], _∷_}
+use Prim.Native.Nat.{ℕ}
 use Rattle.std.specs.declared.option.Option.{Option}
 use Rattle.std.specs.declared.option.Option.the-variants.{Some, None}
 use Rattle.std.specs.declared.result.Result.{Result}
@@ -84,8 +84,3 @@ call-check n fails = record { answers = record { number = n; layer = 0; place = 
 abbrev pub first-failing : List Check → Option Refusal
 first-failing [] = None
 first-failing (c ∷ cs) = cond (c .fails) (Some (c .answers)) (first-failing cs)
-
--- the checks at place 0, then those at place 1, and so on below n
-unfoldable pub each-below : ℕ → (ℕ → List Check) → List Check
-each-below zero checks = []
-each-below (suc n) checks = each-below n checks ++ checks n

@@ -10,7 +10,8 @@ use Rattle.std.proofs.shelf.Results.{err-from-errBy}
 use Rattle.std.proofs.shelf.Tests.{cond-true, cond-false, not-true, not-false}
 use Rattle.format.specs.Layout.{block-count}
 use Rattle.format.specs.Checks.{wrong-length, first-blank, blanks-wrong, block-checks, block-checks-at, block-layer}
-use Rattle.format.specs.Refusals.{refusal-in, refusal-of, first-failing, each-below, block-check}
+use Rattle.format.specs.Refusals.{refusal-in, refusal-of, first-failing, block-check}
+use Rattle.numbers.specs.Below.{each-below}
 use Rattle.format.proofs.First.{past, stops, each-none, each-more, each-stops}
 use Rattle.format.proofs.blocks.check_blocks.Needs as need
 use Rattle.format.proofs.blocks.check_blocks.Needs.{After-loop-b, Else-not-length-right, After-check-block}

@@ -1,6 +1,7 @@
 use mathlib.Core.Path.{_≡_}
 use Rattle.std.specs.declared.option.Option.the-variants.{None}
-use Rattle.format.specs.Refusals.{first-failing, each-below}
+use Rattle.format.specs.Refusals.{first-failing}
+use Rattle.numbers.specs.Below.{each-below}
 use Rattle.format.specs.Checks.{block-checks-at}
 use Rattle.format.proofs.blocks.check_blocks.Given as given
 

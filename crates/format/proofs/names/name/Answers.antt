@@ -7,7 +7,8 @@ use Rattle.std.specs.declared.option.Option.the-variants.{None}
 use Rattle.std.proofs.shelf.Results.{err-from-errBy}
 use Rattle.std.proofs.shelf.Tests.{cond-true, cond-false, le-leb, lt-leb, or-left, or-right, or-from}
 use Rattle.format.specs.Layout.{part, record-count, record-at, record-of, is-blank, name-length}
-use Rattle.format.specs.Refusals.{first-failing, each-below, call-check}
+use Rattle.format.specs.Refusals.{first-failing, call-check}
+use Rattle.numbers.specs.Below.{each-below}
 use Rattle.format.specs.Checks.{block-layer, record-layer, record-checks-at, ahead-of}
 use Rattle.format.specs.Names.{no-such-record, name-checks}
 use Rattle.format.proofs.Cuts.{byte-part, part-part}

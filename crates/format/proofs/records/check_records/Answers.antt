@@ -2,9 +2,9 @@ use mathlib.Core.Path.{_≡_, sym, ap, _∙_}
 use Prim.Native.Nat.{_<_}
 use native.Mathlib.Omega.{arith}
 use Rattle.std.proofs.shelf.Results.{err-from-errBy}
-use Rattle.numbers.specs.Below.{sum-below}
+use Rattle.numbers.specs.Below.{sum-below, each-below}
 use Rattle.format.specs.Layout.{record-count, record-of, is-step, is-outcome}
-use Rattle.format.specs.Refusals.{first-failing, each-below}
+use Rattle.format.specs.Refusals.{first-failing}
 use Rattle.format.specs.Checks.{block-layer, record-checks, record-checks-at, ahead-of, ahead-behind}
 use Rattle.format.proofs.First.{past, stops, each-none, each-more, each-stops}
 use Rattle.format.proofs.RecordLayer.{ahead-more, count-le}

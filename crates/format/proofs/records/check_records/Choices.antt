@@ -2,7 +2,8 @@ use mathlib.Core.Path.{_≡_}
 use Prim.Native.Nat.{_-_, _≤_}
 use Rattle.std.specs.declared.option.Option.the-variants.{None}
 use Rattle.format.specs.Layout.{record-count}
-use Rattle.format.specs.Refusals.{first-failing, each-below}
+use Rattle.format.specs.Refusals.{first-failing}
+use Rattle.numbers.specs.Below.{each-below}
 use Rattle.format.specs.Checks.{ahead-of, record-checks-at}
 use Rattle.format.proofs.records.check_records.Given as given
 
