@@ -6,3 +6,6 @@ pub mod Tests
 pub mod Listed
 pub mod SoundDecided
 pub mod Joins
+pub mod WorkedTable
+pub mod CompleteDecided
+pub mod LawfulTold

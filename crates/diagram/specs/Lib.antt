@@ -4,3 +4,7 @@ pub mod RunLabels
 pub mod Progress
 pub mod Walks
 pub mod Decided
+pub mod Moves
+pub mod Drawn
+pub mod Worked
+pub mod LawfulDrawn

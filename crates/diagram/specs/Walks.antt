@@ -55,3 +55,12 @@ abbrev pub is-sound : (ℕ → ℕ) → Diagram → Bool
 is-sound rank D =
     not (some-below (D .end + 1) (λ n. inner D n && not (reaches D (λ M. enabled D M n) (longest rank D) first)))
     && not (reaches D (λ M. not (reaches D (at-end D) (longest rank D) M)) (longest rank D) first)
+
+-- whether the rows can be taken in turn from M, and all parties then wait at the end
+abbrev pub is-complete-from : Diagram → Marking → List ℕ → Bool
+is-complete-from D M [] = at-end D M
+is-complete-from D M (r ∷ rs) = can-take D M r && is-complete-from D (take-row D M r) rs
+
+-- whether a list of rows is a complete run
+abbrev pub is-complete : Diagram → List ℕ → Bool
+is-complete D rs = is-complete-from D first rs

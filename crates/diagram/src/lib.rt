@@ -1,9 +1,13 @@
 // Diagrams, markings, runs and soundness: the words that every later promise is made in, and what holds of them.
 // Each function carries one theorem.
-ghost use Rattle.diagram.specs.Decided.{Complete-runs-are-listed, Soundness-is-decided};
+ghost use Rattle.diagram.specs.Decided.{Complete-runs-are-listed, Completeness-is-decided, Soundness-is-decided};
+ghost use Rattle.diagram.specs.LawfulDrawn.{Lawfulness-is-told};
 ghost use Rattle.diagram.specs.Progress.{Taking-keeps-markings-lawful, Runs-are-bounded};
 ghost use Rattle.diagram.specs.RunLabels.{Lists-join-alike};
+ghost use Rattle.diagram.specs.Worked.{Worked-table};
 use analysis::kind::Kind;
+
+pub mod rows;
 
 // Taking a row keeps a marking lawful.
 pub fn taking_keeps_markings_lawful_holds()
@@ -20,6 +24,16 @@ pub fn complete_runs_are_listed_holds()
     ensures { λ _. ⌜ Complete-runs-are-listed ⌝ }
 {}
 
+// A diagram given by masks and rows that passes the test is lawful.
+pub fn lawfulness_is_told_holds()
+    ensures { λ _. ⌜ Lawfulness-is-told ⌝ }
+{}
+
+// Taking the rows tells whether a run is complete.
+pub fn completeness_is_decided_holds()
+    ensures { λ _. ⌜ Completeness-is-decided ⌝ }
+{}
+
 // Walking the markings tells whether a diagram is sound.
 pub fn soundness_is_decided_holds()
     ensures { λ _. ⌜ Soundness-is-decided ⌝ }
@@ -28,4 +42,9 @@ pub fn soundness_is_decided_holds()
 // The join over all complete runs does not depend on how they are listed, for any kind of label.
 pub fn lists_join_alike_holds<K: Kind>()
     ensures { λ _. ⌜ Lists-join-alike (K·Kind .algebra) ⌝ }
+{}
+
+// Three diagrams worked by hand, and three wrong rules told apart.
+pub fn worked_table_holds()
+    ensures { λ _. ⌜ Worked-table ⌝ }
 {}
