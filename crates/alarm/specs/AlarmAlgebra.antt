@@ -4,6 +4,7 @@ use lib.Dec.{ltb}
 use Rattle.analysis.specs.Algebra.{Algebra}
 use Rattle.analysis.specs.LabelBytes.{most-in}
 
+-- the operations: an alarm may sound where any part of the run may sound it
 abbrev pub alarm-algebra : Algebra Bool
 alarm-algebra =
     record {

@@ -16,6 +16,7 @@ capped least most = record { least = min least 1000000; most = min most 1000000;
 abbrev pub suitable : Bytes → Bool
 suitable bytes = leb (least-in bytes) (most-in bytes) && leb (most-in bytes) 1000000
 
+-- the operations: halves are added and stop at the limit; either is the wider of two ranges
 abbrev pub cost-algebra : Algebra Cost
 cost-algebra =
     record {

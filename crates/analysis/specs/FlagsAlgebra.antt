@@ -41,6 +41,7 @@ strays relation i v w = may relation v w && not (same-flag i v w && may relation
 abbrev pub stays-within : ℕ → Set → Bool
 stays-within relation P = not (some-below 3 (λ i. not (P i) && some-below 64 (λ k. strays relation i (k / 8) (k % 8))))
 
+-- the operations: relational composition and union
 abbrev pub flags-algebra : Algebra Flags
 flags-algebra =
     record {

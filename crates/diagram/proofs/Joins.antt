@@ -53,7 +53,7 @@ module _ {V : Type 0} (a : Algebra V) (laws : Laws a) where
         least (a .either x (run-label a label rs)) b runs (either-least x (run-label a label rs) b low (each rs (has-here rs runs))) (λ ss h. each ss (has-there rs ss runs h))
 
     -- what a list holds is below its join, the first run too
-    held-below : (rs : List ℕ) (runs : List (List ℕ)) (ss : List ℕ) → Has (rs ∷ runs) ss → Below (run-label a label ss) (joined-from a label (run-label a label rs) runs)
+    pub held-below : (rs : List ℕ) (runs : List (List ℕ)) (ss : List ℕ) → Has (rs ∷ runs) ss → Below (run-label a label ss) (joined-from a label (run-label a label rs) runs)
     held-below rs runs ss h =
         ⊎-elim
         (λ same. subst (λ l. Below (run-label a label l) (joined-from a label (run-label a label rs) runs)) same (above-first (run-label a label rs) runs))

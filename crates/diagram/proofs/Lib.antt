@@ -9,3 +9,6 @@ pub mod Joins
 pub mod WorkedTable
 pub mod CompleteDecided
 pub mod LawfulTold
+pub mod LabelOrder
+pub mod Merging
+pub mod Pulling

@@ -8,3 +8,4 @@ pub mod Moves
 pub mod Drawn
 pub mod Worked
 pub mod LawfulDrawn
+pub mod Meaning

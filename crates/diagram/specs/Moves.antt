@@ -143,10 +143,11 @@ merges-with D i j = ltb i j && may-merge D i j
 abbrev pub shortcuts-into : Diagram → ℕ → ℕ → Bool
 shortcuts-into D r m = eqb (outcomes D m) 1 && may-shortcut D r m
 
--- the least row that has a merge, and the least that has a shortcut; the table's size where none has
+-- the least row that has a merge with a later one; the table's size where none has
 abbrev pub first-merging : Diagram → ℕ
 first-merging D = first-below (D .size) (λ i. some-below (D .size) (merges-with D i))
 
+-- the least row that has a shortcut into a step with one outcome; the table's size where none has
 abbrev pub first-shortcutting : Diagram → ℕ
 first-shortcutting D = first-below (D .size) (λ r. some-below (D .end + 1) (shortcuts-into D r))
 

@@ -32,9 +32,11 @@ row n x y z = Some (record { step = n; to = x ∷ y ∷ z ∷ 255 ∷ 255 ∷ 25
 abbrev pub masks-a : List ℕ
 masks-a = 7 ∷ 3 ∷ 4 ∷ 7 ∷ []
 
+-- its rows
 abbrev pub rows-a : List (Option Row)
 rows-a = row 0 1 1 2 ∷ row 0 3 3 3 ∷ row 1 3 3 255 ∷ row 1 3 3 255 ∷ row 2 255 255 3 ∷ []
 
+-- the diagram that they give
 abbrev pub diagram-a : Diagram
 diagram-a = drawn masks-a rows-a
 
@@ -46,9 +48,11 @@ cost-a r = let c : ℕ = getD (5 ∷ 2 ∷ 10 ∷ 20 ∷ 1 ∷ []) r 0 in capped
 abbrev pub masks-b : List ℕ
 masks-b = 3 ∷ 3 ∷ 3 ∷ 3 ∷ []
 
+-- its rows
 abbrev pub rows-b : List (Option Row)
 rows-b = row 0 1 2 255 ∷ row 1 2 2 255 ∷ row 2 3 3 255 ∷ []
 
+-- the diagram that they give
 abbrev pub diagram-b : Diagram
 diagram-b = drawn masks-b rows-b
 
@@ -56,9 +60,11 @@ diagram-b = drawn masks-b rows-b
 abbrev pub masks-c : List ℕ
 masks-c = 1 ∷ 1 ∷ 1 ∷ []
 
+-- its rows
 abbrev pub rows-c : List (Option Row)
 rows-c = row 0 2 255 255 ∷ row 1 2 255 255 ∷ []
 
+-- the diagram that they give
 abbrev pub diagram-c : Diagram
 diagram-c = drawn masks-c rows-c
 
@@ -80,6 +86,7 @@ diagram-d = drawn (1 ∷ 1 ∷ 1 ∷ []) (row 0 1 255 255 ∷ row 0 1 255 255 �
 abbrev pub diagram-e : Diagram
 diagram-e = drawn (1 ∷ 1 ∷ 1 ∷ []) (row 0 1 255 255 ∷ row 1 2 255 255 ∷ [])
 
+-- its labels: both rows drop what was defined at site 0, and row 0 defines it anew
 abbrev pub definitions-e : ℕ → Definitions
 definitions-e r = sited (λ b. not (eqb b 0)) (λ b. eqb b 0 && eqb r 0)
 
@@ -87,6 +94,7 @@ definitions-e r = sited (λ b. not (eqb b 0)) (λ b. eqb b 0 && eqb r 0)
 abbrev pub never-stalls : (ℕ → ℕ) → Diagram → Bool
 never-stalls rank D = not (reaches D (λ M. not (reaches D (at-end D) (longest rank D) M)) (longest rank D) first)
 
+-- The table.
 pub record Worked-table : Type 0 where
   -- A, B and C are lawful
   pub a-lawful : Lawful number diagram-a

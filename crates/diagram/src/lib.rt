@@ -2,6 +2,7 @@
 // Each function carries one theorem.
 ghost use Rattle.diagram.specs.Decided.{Complete-runs-are-listed, Completeness-is-decided, Soundness-is-decided};
 ghost use Rattle.diagram.specs.LawfulDrawn.{Lawfulness-is-told};
+ghost use Rattle.diagram.specs.Meaning.{Merging-keeps-the-meaning};
 ghost use Rattle.diagram.specs.Progress.{Taking-keeps-markings-lawful, Runs-are-bounded};
 ghost use Rattle.diagram.specs.RunLabels.{Lists-join-alike};
 ghost use Rattle.diagram.specs.Worked.{Worked-table};
@@ -47,4 +48,9 @@ pub fn lists_join_alike_holds<K: Kind>()
 // Three diagrams worked by hand, and three wrong rules told apart.
 pub fn worked_table_holds()
     ensures { λ _. ⌜ Worked-table ⌝ }
+{}
+
+// A merge that may be taken keeps lawfulness, labels and meaning, for any kind of label.
+pub fn merging_keeps_the_meaning_holds<K: Kind>()
+    ensures { λ _. ⌜ Merging-keeps-the-meaning (K·Kind .algebra) ⌝ }
 {}

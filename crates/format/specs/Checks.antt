@@ -49,6 +49,7 @@ no-name len = eqb len 0
 abbrev pub wrong-name-byte : ℕ → ℕ → ℕ → Bool
 wrong-name-byte len i b = cond (ltb i len) (ltb b 33 || ltb 126 b) (not (eqb b 0))
 
+-- some byte of the name's field is wrong for a name of that length
 abbrev pub wrong-text : ℕ → Bytes → Bool
 wrong-text len text = some-below 13 (λ i. wrong-name-byte len i (byte text i))
 

@@ -54,12 +54,15 @@ record-of file r = part file (record-at r) 56
 abbrev pub kind-of : Bytes → ℕ
 kind-of rec = byte rec 0
 
+-- a record of kind 0
 abbrev pub is-blank : Bytes → Bool
 is-blank rec = eqb (kind-of rec) 0
 
+-- a record of kind 1
 abbrev pub is-step : Bytes → Bool
 is-step rec = eqb (kind-of rec) 1
 
+-- a record of kind 2
 abbrev pub is-outcome : Bytes → Bool
 is-outcome rec = eqb (kind-of rec) 2
 
@@ -75,6 +78,7 @@ mask-of rec = byte rec 2
 abbrev pub unused-of : Bytes → Bytes
 unused-of rec = part rec 3 39
 
+-- the length of the name, byte 42
 abbrev pub name-length : Bytes → ℕ
 name-length rec = byte rec 42
 

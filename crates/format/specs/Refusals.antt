@@ -21,12 +21,14 @@ pub record Refusal : Type 0 where
   pub layer : ℕ
   pub place : ℕ
 
+-- the number of a fault of the block layer
 abbrev pub block-number : BlockCause → ℕ
 block-number Length = 1
 block-number CheckWrong = 2
 block-number Header = 3
 block-number Blank = 4
 
+-- the number of a fault of the record layer
 abbrev pub record-number : RecordCause → ℕ
 record-number Kind = 5
 record-number Unnamed = 6
@@ -34,6 +36,7 @@ record-number Name = 7
 record-number Step = 8
 record-number Outcome = 9
 
+-- the number of a fault of a call's own arguments
 abbrev pub call-number : CallCause → ℕ
 call-number NoRecord = 22
 
@@ -55,6 +58,7 @@ place-of (Block c p) = p
 place-of (Record c p) = p
 place-of (Call c) = 0
 
+-- all three
 abbrev pub refusal-of : Fault → Refusal
 refusal-of e = record { number = number-of e; layer = layer-of e; place = place-of e }
 
