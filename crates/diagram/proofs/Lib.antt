@@ -12,3 +12,8 @@ pub mod LawfulTold
 pub mod LabelOrder
 pub mod Merging
 pub mod Pulling
+pub mod FollowUps
+pub mod Shortcutting
+pub mod ShortcutTail
+pub mod ShortcutLawful
+pub mod Striking

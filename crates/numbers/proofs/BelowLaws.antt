@@ -109,3 +109,43 @@ first-tells (suc n) p =
       before = λ k lt. ⊎-elim (λ same. ap p same ∙ not-here) (⊎-elim (λ l. none-at n p none k l) (λ g. absurd (omega arith))) (cases-order k n);
       passes = λ lt. absurd (omega arith);
     }))
+
+-- counts grow with the bound
+pub count-le-count : (n : ℕ) (p : ℕ → Bool) (k : ℕ) → k ≤ n → count-below k p ≤ count-below n p
+unfolding sum-below
+count-le-count zero p k le = let none : k ≡ 0 = omega arith in let same : count-below k p ≡ 0 = ap (λ j. count-below j p) none in omega arith
+count-le-count (suc n) p k le =
+    ⊎-elim
+    (λ below. let rest = count-le-count n p k (omega arith) in omega arith)
+    (λ top. let all : k ≡ suc n = omega arith in let same : count-below k p ≡ count-below (suc n) p = ap (λ j. count-below j p) all in omega arith)
+    (cases-lt k (suc n))
+
+-- and by one where a number passes
+pub count-lt-count : (n : ℕ) (p : ℕ → Bool) (k : ℕ) → k < n → p k ≡ true → count-below k p < count-below n p
+unfolding sum-below
+count-lt-count n p k lt passes =
+    let here : cond {A = ℕ} (p k) 1 0 ≡ 1 = cond-true (p k) 1 0 passes in
+    let up : count-below (suc k) p ≤ count-below n p = count-le-count n p (suc k) lt in
+    omega arith
+
+-- numbers that pass with as many before them are the same
+pub count-tells : (p : ℕ → Bool) (k l : ℕ) → p k ≡ true → p l ≡ true → count-below k p ≡ count-below l p → k ≡ l
+count-tells p k l pk pl same =
+    ⊎-elim
+    (λ e. e)
+    (⊎-elim (λ lt. let up = count-lt-count l p k lt pk in absurd (omega arith)) (λ gt. let up = count-lt-count k p l gt pl in absurd (omega arith)))
+    (cases-order k l)
+
+-- the i-th number that passes
+pub count-at : (n : ℕ) (p : ℕ → Bool) (i : ℕ) → i < count-below n p → (k : ℕ) × (k < n) × (p k ≡ true) × (count-below k p ≡ i)
+unfolding sum-below
+count-at zero p i lt = absurd (omega arith)
+count-at (suc n) p i lt =
+    ⊎-elim
+    (λ before. let found = count-at n p i before in (found .0, let l = found .1 in omega arith, found .2, found .3))
+    (λ last.
+    ⊎-elim
+    (λ passes. let one : cond {A = ℕ} (p n) 1 0 ≡ 1 = cond-true (p n) 1 0 passes in (n, omega arith, passes, omega arith))
+    (λ fails. let none : cond {A = ℕ} (p n) 1 0 ≡ 0 = cond-false (p n) 1 0 fails in absurd (omega arith))
+    (cases-bool (p n)))
+    (cases-lt i (count-below n p))
