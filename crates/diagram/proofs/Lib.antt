@@ -17,3 +17,4 @@ pub mod Shortcutting
 pub mod ShortcutTail
 pub mod ShortcutLawful
 pub mod Striking
+pub mod ShortcutKept

@@ -24,7 +24,7 @@ pub data Fires (D : Diagram) (m : ℕ) : List ℕ → Type 0 where
   now : {t : ℕ} {rs : List ℕ} → D .step t ≡ m → Fires D m (t ∷ rs)
   later : {t : ℕ} {rs : List ℕ} → Fires D m rs → Fires D m (t ∷ rs)
 
-fires-none : (D : Diagram) (m : ℕ) → Fires D m [] → ⊥
+pub fires-none : (D : Diagram) (m : ℕ) → Fires D m [] → ⊥
 fires-none D m f = elim f as (λ l _. elim l as (λ _. Type 0) [ [] ↦ ⊥ | t ∷ rs ↦ Unit {0} ]) [ now e ↦ tt | later g ↦ tt ]
 
 pub fires-cases : (D : Diagram) (m : ℕ) {t : ℕ} {rs : List ℕ} → Fires D m (t ∷ rs) → (D .step t ≡ m) ⊎ Fires D m rs

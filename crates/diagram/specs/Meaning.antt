@@ -5,7 +5,7 @@ use mathlib.Core.Path.{_≡_}
 use Prim.Native.Nat.{ℕ}
 use Rattle.analysis.specs.Algebra.{Algebra}
 use Rattle.diagram.specs.Diagrams.{Diagram, Lawful}
-use Rattle.diagram.specs.Moves.{may-merge, after-merge, label-after-merge}
+use Rattle.diagram.specs.Moves.{may-merge, after-merge, label-after-merge, may-shortcut, after-shortcut, label-after-shortcut}
 use Rattle.diagram.specs.RunLabels.{run-label, joined-from, Lists-complete}
 use Rattle.diagram.specs.Runs.{Complete, Sound}
 
@@ -39,3 +39,14 @@ pub record Merge-kept {V : Type 0} (a : Algebra V) (rank : ℕ → ℕ) (D : Dia
 abbrev pub Merging-keeps-the-meaning : {V : Type 0} → Algebra V → Type 0
 Merging-keeps-the-meaning {V} a =
     (rank : ℕ → ℕ) (D : Diagram) (label : ℕ → V) (i j : ℕ) → Lawful rank D → Labels-belong a D label → may-merge D i j ≡ true → Merge-kept a rank D label i j
+
+-- A shortcut that may be taken leaves a lawful diagram, labels that belong, and the same meaning.
+pub record Shortcut-kept {V : Type 0} (a : Algebra V) (rank : ℕ → ℕ) (D : Diagram) (label : ℕ → V) (r m : ℕ) : Type 0 where
+  pub still-lawful : Lawful rank (after-shortcut D r m)
+  pub still-belong : Labels-belong a (after-shortcut D r m) (label-after-shortcut a D label r m)
+  pub same-meaning : Means-the-same a D label (after-shortcut D r m) (label-after-shortcut a D label r m)
+
+-- So for every lawful diagram whose labels belong, and every row with a shortcut into a step.
+abbrev pub Shortcutting-keeps-the-meaning : {V : Type 0} → Algebra V → Type 0
+Shortcutting-keeps-the-meaning {V} a =
+    (rank : ℕ → ℕ) (D : Diagram) (label : ℕ → V) (r m : ℕ) → Lawful rank D → Labels-belong a D label → may-shortcut D r m ≡ true → Shortcut-kept a rank D label r m

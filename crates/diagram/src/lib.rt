@@ -2,7 +2,7 @@
 // Each function carries one theorem.
 ghost use Rattle.diagram.specs.Decided.{Complete-runs-are-listed, Completeness-is-decided, Soundness-is-decided};
 ghost use Rattle.diagram.specs.LawfulDrawn.{Lawfulness-is-told};
-ghost use Rattle.diagram.specs.Meaning.{Merging-keeps-the-meaning};
+ghost use Rattle.diagram.specs.Meaning.{Merging-keeps-the-meaning, Shortcutting-keeps-the-meaning};
 ghost use Rattle.diagram.specs.Progress.{Taking-keeps-markings-lawful, Runs-are-bounded};
 ghost use Rattle.diagram.specs.RunLabels.{Lists-join-alike};
 ghost use Rattle.diagram.specs.Worked.{Worked-table};
@@ -53,4 +53,9 @@ pub fn worked_table_holds()
 // A merge that may be taken keeps lawfulness, labels and meaning, for any kind of label.
 pub fn merging_keeps_the_meaning_holds<K: Kind>()
     ensures { λ _. ⌜ Merging-keeps-the-meaning (K·Kind .algebra) ⌝ }
+{}
+
+// A shortcut that may be taken keeps lawfulness, labels and meaning, for any kind of label.
+pub fn shortcutting_keeps_the_meaning_holds<K: Kind>()
+    ensures { λ _. ⌜ Shortcutting-keeps-the-meaning (K·Kind .algebra) ⌝ }
 {}
