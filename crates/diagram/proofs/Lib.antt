@@ -18,3 +18,4 @@ pub mod ShortcutTail
 pub mod ShortcutLawful
 pub mod Striking
 pub mod ShortcutKept
+pub mod Moving

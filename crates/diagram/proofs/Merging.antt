@@ -10,7 +10,7 @@ use Rattle.numbers.specs.Below.{some-below}
 use Rattle.numbers.proofs.BelowLaws.{none-at}
 use Rattle.analysis.specs.Algebra.{Algebra, Laws}
 use Rattle.diagram.specs.Diagrams.{Diagram, Inner, Lawful}
-use Rattle.diagram.specs.Meaning.{Labels-belong, Means-the-same, Merge-kept, Merging-keeps-the-meaning}
+use Rattle.diagram.specs.Meaning.{Labels-belong, Means-the-same, Kept, Merging-keeps-the-meaning}
 use Rattle.diagram.specs.Moves.{same-goals, may-merge, after-merge, label-after-merge}
 use Rattle.diagram.specs.RunLabels.{run-label, joined-from, Lists-complete}
 use Rattle.diagram.specs.Runs.{Marking, first, AtEnd, Enabled, Can, take-row, Run, stop, go, Complete, Sound}

@@ -12,7 +12,7 @@ use Rattle.numbers.specs.Below.{some-below}
 use Rattle.numbers.proofs.BelowLaws.{some-at}
 use Rattle.analysis.specs.Algebra.{Algebra, Laws}
 use Rattle.diagram.specs.Diagrams.{Diagram, Inner, Lawful}
-use Rattle.diagram.specs.Meaning.{Labels-belong, Means-the-same, Shortcut-kept, Shortcutting-keeps-the-meaning}
+use Rattle.diagram.specs.Meaning.{Labels-belong, Means-the-same, Kept, Shortcutting-keeps-the-meaning}
 use Rattle.diagram.specs.Moves.{leads-to, struck, after-shortcut, label-after-shortcut}
 use Rattle.diagram.specs.RunLabels.{run-label, joined-from, Lists-complete}
 use Rattle.diagram.specs.Runs.{Marking, first, AtEnd, Enabled, Can, take-row, Run, stop, go, Leads, Complete, Sound}
@@ -242,26 +242,21 @@ module _ (rank : ℕ → ℕ) (D : Diagram) (lawful : Lawful rank D) (r m : ℕ)
           join-kept = λ rs ss runs others here there. same-join rs ss runs others here (lists-unstruck (ss ∷ others) there);
         }
 
-  -- lawful, with labels that belong, and with the same meaning
-  abbrev Kept : Diagram → Type 0
-  Kept F = Lawful rank F × Labels-belong a F label′ × Means-the-same a D label F label′
-
-  kept : Kept (after-shortcut D r m)
+  kept : Kept a rank D label (after-shortcut D r m) label′
   kept =
       ⊎-elim
       (λ yes.
-      subst Kept (sym (cond-true (leads-to E m) E (struck E m) yes))
-      (with-lawful rank D lawful r m may, with-labels rank D lawful r m may a laws label belong, kept-standing yes))
+      subst (λ F. Kept a rank D label F label′) (sym (cond-true (leads-to E m) E (struck E m) yes))
+      (record { still-lawful = with-lawful rank D lawful r m may; still-belong = with-labels rank D lawful r m may a laws label belong; same-meaning = kept-standing yes }))
       (λ no.
       let stands = with-lawful rank D lawful r m may in
-      subst Kept (sym (cond-false (leads-to E m) E (struck E m) no)) (
-        strike.struck-lawful rank E stands m (may .target-inner) (may .not-start) no,
-        strike.struck-labels rank E stands m (may .target-inner) (may .not-start) no a label′ (with-labels rank D lawful r m may a laws label belong),
-        kept-struck no,
-      ))
+      subst (λ F. Kept a rank D label F label′) (sym (cond-false (leads-to E m) E (struck E m) no))
+      (record {
+        still-lawful = strike.struck-lawful rank E stands m (may .target-inner) (may .not-start) no;
+        still-belong = strike.struck-labels rank E stands m (may .target-inner) (may .not-start) no a label′ (with-labels rank D lawful r m may a laws label belong);
+        same-meaning = kept-struck no;
+      }))
       (cases-bool (leads-to E m))
 
 pub shortcutting-keeps-the-meaning : {V : Type 0} (a : Algebra V) → Laws a → Shortcutting-keeps-the-meaning a
-shortcutting-keeps-the-meaning a laws rank D label r m lawful belong h =
-    let all = kept rank D lawful r m (takeable rank D lawful r m h) a laws label belong in
-    record { still-lawful = all .0; still-belong = all .1; same-meaning = all .2 }
+shortcutting-keeps-the-meaning a laws rank D label r m lawful belong h = kept rank D lawful r m (takeable rank D lawful r m h) a laws label belong

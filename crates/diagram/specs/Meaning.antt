@@ -5,7 +5,7 @@ use mathlib.Core.Path.{_≡_}
 use Prim.Native.Nat.{ℕ}
 use Rattle.analysis.specs.Algebra.{Algebra}
 use Rattle.diagram.specs.Diagrams.{Diagram, Lawful}
-use Rattle.diagram.specs.Moves.{may-merge, after-merge, label-after-merge, may-shortcut, after-shortcut, label-after-shortcut}
+use Rattle.diagram.specs.Moves.{may-merge, after-merge, label-after-merge, may-shortcut, after-shortcut, label-after-shortcut, Move, Moved}
 use Rattle.diagram.specs.RunLabels.{run-label, joined-from, Lists-complete}
 use Rattle.diagram.specs.Runs.{Complete, Sound}
 
@@ -29,24 +29,23 @@ pub record Means-the-same {V : Type 0} (a : Algebra V) (D : Diagram) (label : �
   pub join-kept : (rs ss : List ℕ) (runs others : List (List ℕ)) → Lists-complete D (rs ∷ runs) → Lists-complete D′ (ss ∷ others)
       → joined-from a label (run-label a label rs) runs ≡ joined-from a label′ (run-label a label′ ss) others
 
--- A merge that may be taken leaves a lawful diagram, labels that belong, and the same meaning.
-pub record Merge-kept {V : Type 0} (a : Algebra V) (rank : ℕ → ℕ) (D : Diagram) (label : ℕ → V) (i j : ℕ) : Type 0 where
-  pub still-lawful : Lawful rank (after-merge D j)
-  pub still-belong : Labels-belong a (after-merge D j) (label-after-merge a label i j)
-  pub same-meaning : Means-the-same a D label (after-merge D j) (label-after-merge a label i j)
+-- What a move keeps: the diagram stays lawful, labels belong, and the meaning is the same.
+pub record Kept {V : Type 0} (a : Algebra V) (rank : ℕ → ℕ) (D : Diagram) (label : ℕ → V) (D′ : Diagram) (label′ : ℕ → V) : Type 0 where
+  pub still-lawful : Lawful rank D′
+  pub still-belong : Labels-belong a D′ label′
+  pub same-meaning : Means-the-same a D label D′ label′
 
--- So for every lawful diagram whose labels belong, and every two rows that may be merged.
+-- For every lawful diagram whose labels belong: any two rows that may be merged,
 abbrev pub Merging-keeps-the-meaning : {V : Type 0} → Algebra V → Type 0
 Merging-keeps-the-meaning {V} a =
-    (rank : ℕ → ℕ) (D : Diagram) (label : ℕ → V) (i j : ℕ) → Lawful rank D → Labels-belong a D label → may-merge D i j ≡ true → Merge-kept a rank D label i j
+    (rank : ℕ → ℕ) (D : Diagram) (label : ℕ → V) (i j : ℕ) → Lawful rank D → Labels-belong a D label → may-merge D i j ≡ true → Kept a rank D label (after-merge D j) (label-after-merge a label i j)
 
--- A shortcut that may be taken leaves a lawful diagram, labels that belong, and the same meaning.
-pub record Shortcut-kept {V : Type 0} (a : Algebra V) (rank : ℕ → ℕ) (D : Diagram) (label : ℕ → V) (r m : ℕ) : Type 0 where
-  pub still-lawful : Lawful rank (after-shortcut D r m)
-  pub still-belong : Labels-belong a (after-shortcut D r m) (label-after-shortcut a D label r m)
-  pub same-meaning : Means-the-same a D label (after-shortcut D r m) (label-after-shortcut a D label r m)
-
--- So for every lawful diagram whose labels belong, and every row with a shortcut into a step.
+-- any row with a shortcut into a step,
 abbrev pub Shortcutting-keeps-the-meaning : {V : Type 0} → Algebra V → Type 0
 Shortcutting-keeps-the-meaning {V} a =
-    (rank : ℕ → ℕ) (D : Diagram) (label : ℕ → V) (r m : ℕ) → Lawful rank D → Labels-belong a D label → may-shortcut D r m ≡ true → Shortcut-kept a rank D label r m
+    (rank : ℕ → ℕ) (D : Diagram) (label : ℕ → V) (r m : ℕ) → Lawful rank D → Labels-belong a D label → may-shortcut D r m ≡ true → Kept a rank D label (after-shortcut D r m) (label-after-shortcut a D label r m)
+
+-- and any sequence of moves.
+abbrev pub Moving-keeps-the-meaning : {V : Type 0} → Algebra V → Type 0
+Moving-keeps-the-meaning {V} a =
+    (rank : ℕ → ℕ) (D : Diagram) (label : ℕ → V) (moves : List Move) (D′ : Diagram) (label′ : ℕ → V) → Lawful rank D → Labels-belong a D label → Moved a D label moves D′ label′ → Kept a rank D label D′ label′

@@ -1,5 +1,6 @@
 -- The two moves on a diagram with labels, as rules: when each may be taken, and what stands afterwards.
-use mathlib.Core.Bool.{Bool, cond, not, _&&_, _||_}
+use mathlib.Core.Bool.{Bool, true, cond, not, _&&_, _||_}
+use mathlib.Core.List.{List, [], _∷_}
 use mathlib.Core.Path.{_≡_}
 use Prim.Native.Nat.{ℕ, _+_}
 use lib.Dec.{eqb, ltb, leb}
@@ -125,6 +126,11 @@ pub data Move : Type 0 where
   merge : ℕ → ℕ → Move
   shortcut : ℕ → ℕ → Move
 
+-- it may be taken
+abbrev pub may-move : Diagram → Move → Bool
+may-move D (merge i j) = may-merge D i j
+may-move D (shortcut r m) = may-shortcut D r m
+
 -- what stands after a move
 abbrev pub after : Diagram → Move → Diagram
 after D (merge i j) = after-merge D j
@@ -134,6 +140,12 @@ after D (shortcut r m) = after-shortcut D r m
 abbrev pub label-after : {V : Type 0} → Algebra V → Diagram → (ℕ → V) → Move → ℕ → V
 label-after a D label (merge i j) = label-after-merge a label i j
 label-after a D label (shortcut r m) = label-after-shortcut a D label r m
+
+-- moves taken in turn, each of which may be taken: from a diagram with labels to what stands at last
+pub data Moved {V : Type 0} (a : Algebra V) : Diagram → (ℕ → V) → List Move → Diagram → (ℕ → V) → Type 0 where
+  rest : {D : Diagram} {label : ℕ → V} → Moved a D label [] D label
+  move : {D : Diagram} {label : ℕ → V} {m : Move} {ms : List Move} {D′ : Diagram} {label′ : ℕ → V}
+      → may-move D m ≡ true → Moved a (after D m) (label-after a D label m) ms D′ label′ → Moved a D label (m ∷ ms) D′ label′
 
 -- the rows behind i that may be merged with it
 abbrev pub merges-with : Diagram → ℕ → ℕ → Bool

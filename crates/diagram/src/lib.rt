@@ -2,7 +2,7 @@
 // Each function carries one theorem.
 ghost use Rattle.diagram.specs.Decided.{Complete-runs-are-listed, Completeness-is-decided, Soundness-is-decided};
 ghost use Rattle.diagram.specs.LawfulDrawn.{Lawfulness-is-told};
-ghost use Rattle.diagram.specs.Meaning.{Merging-keeps-the-meaning, Shortcutting-keeps-the-meaning};
+ghost use Rattle.diagram.specs.Meaning.{Merging-keeps-the-meaning, Shortcutting-keeps-the-meaning, Moving-keeps-the-meaning};
 ghost use Rattle.diagram.specs.Progress.{Taking-keeps-markings-lawful, Runs-are-bounded};
 ghost use Rattle.diagram.specs.RunLabels.{Lists-join-alike};
 ghost use Rattle.diagram.specs.Worked.{Worked-table};
@@ -58,4 +58,9 @@ pub fn merging_keeps_the_meaning_holds<K: Kind>()
 // A shortcut that may be taken keeps lawfulness, labels and meaning, for any kind of label.
 pub fn shortcutting_keeps_the_meaning_holds<K: Kind>()
     ensures { λ _. ⌜ Shortcutting-keeps-the-meaning (K·Kind .algebra) ⌝ }
+{}
+
+// Any sequence of moves that may be taken keeps lawfulness, labels and meaning, for any kind of label.
+pub fn moving_keeps_the_meaning_holds<K: Kind>()
+    ensures { λ _. ⌜ Moving-keeps-the-meaning (K·Kind .algebra) ⌝ }
 {}
