@@ -74,7 +74,7 @@ module _ (rank : ℕ → ℕ) (D : Diagram) (lawful : Lawful rank D) (r m : ℕ)
     turn-r : turn D r r ≡ 0
     turn-r = cond-true (eqb r r) 0 (1 + count-below r (free D)) (eq-eqb r r refl)
 
-    turn-below : (t : ℕ) → takes t ≡ true → turn D r t < outcomes D m
+    pub turn-below : (t : ℕ) → takes t ≡ true → turn D r t < outcomes D m
     turn-below t h =
         ⊎-elim
         (λ same. let zeroth : turn D r t ≡ 0 = cond-true (eqb t r) 0 (1 + count-below t (free D)) same in let some = some-outcome in omega arith)

@@ -19,3 +19,6 @@ pub mod ShortcutLawful
 pub mod Striking
 pub mod ShortcutKept
 pub mod Moving
+pub mod Counting
+pub mod Spending
+pub mod Shrinking

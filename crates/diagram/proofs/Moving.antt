@@ -51,7 +51,7 @@ module _ {V : Type 0} (a : Algebra V) (laws : Laws a) where
   moved-once rank D label (merge i j) lawful belong h = merging-keeps-the-meaning a laws rank D label i j lawful belong h
   moved-once rank D label (shortcut r m) lawful belong h = shortcutting-keeps-the-meaning a laws rank D label r m lawful belong h
 
-  moved-all : (rank : ℕ → ℕ) {D D′ : Diagram} {label label′ : ℕ → V} {moves : List Move} → Lawful rank D → Labels-belong a D label → Moved a D label moves D′ label′ → Kept a rank D label D′ label′
+  moved-all : (rank : ℕ → ℕ) {D D′ : Diagram} {label label′ : ℕ → V} {moves : List Move} → Lawful rank D → Labels-belong a D label → Moved a may-move D label moves D′ label′ → Kept a rank D label D′ label′
   moved-all rank {D} {label = label} lawful belong rest = record { still-lawful = lawful; still-belong = belong; same-meaning = means-itself D label }
   moved-all rank {D} {label = label} lawful belong (move {m = m} may more) =
       let once = moved-once rank D label m lawful belong may in

@@ -22,7 +22,7 @@ module _ (rank : ℕ → ℕ) (D : Diagram) (lawful : Lawful rank D) (r m : ℕ)
   new = takes rank D lawful r m may
 
   -- a row of the target leads above it
-  above-target : (q p : ℕ) → D .used q ≡ true → D .step q ≡ m → D .part m p ≡ true → rank m < rank (D .to q p)
+  pub above-target : (q p : ℕ) → D .used q ≡ true → D .step q ≡ m → D .part m p ≡ true → rank m < rank (D .to q p)
   above-target q p use′ of′ in′ = subst (λ n. rank n < rank (D .to q p)) of′ (lawful .row-rises q p use′ (ap (λ n. D .part n p) of′ ∙ in′))
 
   -- the row's step lies below the target

@@ -32,7 +32,7 @@ module _ (rank : ℕ → ℕ) (E : Diagram) (lawful : Lawful rank E) (m : ℕ) (
       let here = none-at (E .parties) (λ q. E .part (E .step t) q && eqb (E .to t q) m) none p (lawful .part-known (E .step t) p in′) in
       eqb-false (E .to t p) m (second-fails (E .part (E .step t) p) _ in′ here) goes
 
-  part-kept : (n p : ℕ) → (n ≡ m → ⊥) → S .part n p ≡ E .part n p
+  pub part-kept : (n p : ℕ) → (n ≡ m → ⊥) → S .part n p ≡ E .part n p
   part-kept n p ne = and-yes (E .part n p) (not (eqb n m)) (ap not (ne-eqb n m ne))
 
   pub inner-was : (n : ℕ) → Inner S n → Inner E n × (n ≡ m → ⊥)
@@ -41,7 +41,7 @@ module _ (rank : ℕ → ℕ) (E : Diagram) (lawful : Lawful rank E) (m : ℕ) (
   pub inner-still : (n : ℕ) → Inner E n → (n ≡ m → ⊥) → Inner S n
   inner-still n h ne = (and-from (E .stands n) (not (eqb n m)) (h .0) (ap not (ne-eqb n m ne)), h .1)
 
-  used-was : (t : ℕ) → S .used t ≡ true → (E .used t ≡ true) × (E .step t ≡ m → ⊥)
+  pub used-was : (t : ℕ) → S .used t ≡ true → (E .used t ≡ true) × (E .step t ≡ m → ⊥)
   used-was t h = let parts = and-parts (E .used t) (not (eqb (E .step t) m)) h in (parts .0, eqb-false _ m (not-true _ (parts .1)))
 
   used-still : (t : ℕ) → E .used t ≡ true → (E .step t ≡ m → ⊥) → S .used t ≡ true

@@ -9,3 +9,4 @@ pub mod Drawn
 pub mod Worked
 pub mod LawfulDrawn
 pub mod Meaning
+pub mod Reducing

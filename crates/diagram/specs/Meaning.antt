@@ -5,7 +5,7 @@ use mathlib.Core.Path.{_≡_}
 use Prim.Native.Nat.{ℕ}
 use Rattle.analysis.specs.Algebra.{Algebra}
 use Rattle.diagram.specs.Diagrams.{Diagram, Lawful}
-use Rattle.diagram.specs.Moves.{may-merge, after-merge, label-after-merge, may-shortcut, after-shortcut, label-after-shortcut, Move, Moved}
+use Rattle.diagram.specs.Moves.{may-merge, after-merge, label-after-merge, may-shortcut, after-shortcut, label-after-shortcut, Move, may-move, Moved}
 use Rattle.diagram.specs.RunLabels.{run-label, joined-from, Lists-complete}
 use Rattle.diagram.specs.Runs.{Complete, Sound}
 
@@ -48,4 +48,4 @@ Shortcutting-keeps-the-meaning {V} a =
 -- and any sequence of moves.
 abbrev pub Moving-keeps-the-meaning : {V : Type 0} → Algebra V → Type 0
 Moving-keeps-the-meaning {V} a =
-    (rank : ℕ → ℕ) (D : Diagram) (label : ℕ → V) (moves : List Move) (D′ : Diagram) (label′ : ℕ → V) → Lawful rank D → Labels-belong a D label → Moved a D label moves D′ label′ → Kept a rank D label D′ label′
+    (rank : ℕ → ℕ) (D : Diagram) (label : ℕ → V) (moves : List Move) (D′ : Diagram) (label′ : ℕ → V) → Lawful rank D → Labels-belong a D label → Moved a may-move D label moves D′ label′ → Kept a rank D label D′ label′

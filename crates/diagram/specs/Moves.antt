@@ -141,11 +141,11 @@ abbrev pub label-after : {V : Type 0} → Algebra V → Diagram → (ℕ → V) 
 label-after a D label (merge i j) = label-after-merge a label i j
 label-after a D label (shortcut r m) = label-after-shortcut a D label r m
 
--- moves taken in turn, each of which may be taken: from a diagram with labels to what stands at last
-pub data Moved {V : Type 0} (a : Algebra V) : Diagram → (ℕ → V) → List Move → Diagram → (ℕ → V) → Type 0 where
-  rest : {D : Diagram} {label : ℕ → V} → Moved a D label [] D label
+-- moves taken in turn, each of which passes a test: from a diagram with labels to what stands at last
+pub data Moved {V : Type 0} (a : Algebra V) (test : Diagram → Move → Bool) : Diagram → (ℕ → V) → List Move → Diagram → (ℕ → V) → Type 0 where
+  rest : {D : Diagram} {label : ℕ → V} → Moved a test D label [] D label
   move : {D : Diagram} {label : ℕ → V} {m : Move} {ms : List Move} {D′ : Diagram} {label′ : ℕ → V}
-      → may-move D m ≡ true → Moved a (after D m) (label-after a D label m) ms D′ label′ → Moved a D label (m ∷ ms) D′ label′
+      → test D m ≡ true → Moved a test (after D m) (label-after a D label m) ms D′ label′ → Moved a test D label (m ∷ ms) D′ label′
 
 -- the rows behind i that may be merged with it
 abbrev pub merges-with : Diagram → ℕ → ℕ → Bool
@@ -154,6 +154,11 @@ merges-with D i j = ltb i j && may-merge D i j
 -- the steps with one outcome into which row r has a shortcut
 abbrev pub shortcuts-into : Diagram → ℕ → ℕ → Bool
 shortcuts-into D r m = eqb (outcomes D m) 1 && may-shortcut D r m
+
+-- a merge, or a shortcut into a step with one outcome, that may be taken
+abbrev pub may-reduce : Diagram → Move → Bool
+may-reduce D (merge i j) = may-merge D i j
+may-reduce D (shortcut r m) = shortcuts-into D r m
 
 -- the least row that has a merge with a later one; the table's size where none has
 abbrev pub first-merging : Diagram → ℕ
