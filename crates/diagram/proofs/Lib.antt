@@ -22,3 +22,7 @@ pub mod Moving
 pub mod Counting
 pub mod Spending
 pub mod Shrinking
+pub mod Lowest
+pub mod Twins
+pub mod Leftover
+pub mod Verdict

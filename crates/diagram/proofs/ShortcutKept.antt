@@ -34,11 +34,11 @@ Alive D n = (X : Marking) × Leads D first X × Enabled D X n
 abbrev Goes-on : Diagram → Type 0
 Goes-on D = (X : Marking) → Leads D first X → (Y : Marking) × Leads D X Y × AtEnd D Y
 
-joined : (D : Diagram) {M X Y : Marking} → Leads D M X → Leads D X Y → Leads D M Y
+pub joined : (D : Diagram) {M X Y : Marking} → Leads D M X → Leads D X Y → Leads D M Y
 joined D one two = (one .0 ++ two .0, run-append D (one .1) (two .1))
 
 -- a step that a run fires was enabled on the way
-fired-enabled : (D : Diagram) (m : ℕ) {M X : Marking} {rs : List ℕ} → Run D M rs X → Fires D m rs → (Z : Marking) × Leads D M Z × Enabled D Z m
+pub fired-enabled : (D : Diagram) (m : ℕ) {M X : Marking} {rs : List ℕ} → Run D M rs X → Fires D m rs → (Z : Marking) × Leads D M Z × Enabled D Z m
 fired-enabled D m stop f = absurd (fires-none D m f)
 fired-enabled D m {M} (go {r = t} can rest) f =
     ⊎-elim

@@ -2,7 +2,7 @@
 // Each function carries one theorem.
 ghost use Rattle.diagram.specs.Decided.{Complete-runs-are-listed, Completeness-is-decided, Soundness-is-decided};
 ghost use Rattle.diagram.specs.LawfulDrawn.{Lawfulness-is-told};
-ghost use Rattle.diagram.specs.Reducing.{Reductions-are-bounded};
+ghost use Rattle.diagram.specs.Reducing.{Reductions-are-bounded, The-verdict-is-right};
 ghost use Rattle.diagram.specs.Meaning.{Merging-keeps-the-meaning, Shortcutting-keeps-the-meaning, Moving-keeps-the-meaning};
 ghost use Rattle.diagram.specs.Progress.{Taking-keeps-markings-lawful, Runs-are-bounded};
 ghost use Rattle.diagram.specs.RunLabels.{Lists-join-alike};
@@ -69,4 +69,9 @@ pub fn moving_keeps_the_meaning_holds<K: Kind>()
 // No reduction by merges and shortcuts into steps with one outcome goes on for ever, for any kind of label.
 pub fn reductions_are_bounded_holds<K: Kind>()
     ensures { λ _. ⌜ Reductions-are-bounded (K·Kind .algebra) ⌝ }
+{}
+
+// Where nothing is left to take, one row from the start to the end tells a sound diagram.
+pub fn the_verdict_is_right_holds()
+    ensures { λ _. ⌜ The-verdict-is-right ⌝ }
 {}
