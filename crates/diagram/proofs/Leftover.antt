@@ -22,7 +22,7 @@ is-some (Some m) = true
 is-some None = false
 
 -- where a number passes, the search finds one
-first-found : (n : ℕ) (p : ℕ → Bool) (k : ℕ) → k < n → p k ≡ true → ltb (first-below n p) n ≡ true
+pub first-found : (n : ℕ) (p : ℕ → Bool) (k : ℕ) → k < n → p k ≡ true → ltb (first-below n p) n ≡ true
 first-found n p k lt h =
     ⊎-elim
     (λ low. lt-ltb (first-below n p) n low)

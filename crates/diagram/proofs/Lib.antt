@@ -26,3 +26,4 @@ pub mod Lowest
 pub mod Twins
 pub mod Leftover
 pub mod Verdict
+pub mod Reducing

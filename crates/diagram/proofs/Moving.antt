@@ -16,7 +16,7 @@ use Rattle.diagram.proofs.Merging.{merging-keeps-the-meaning}
 use Rattle.diagram.proofs.ShortcutKept.{shortcutting-keeps-the-meaning}
 
 module _ {V : Type 0} (a : Algebra V) (laws : Laws a) where
-  means-itself : (D : Diagram) (label : ℕ → V) → Means-the-same a D label D label
+  pub means-itself : (D : Diagram) (label : ℕ → V) → Means-the-same a D label D label
   means-itself D label =
       record {
         soundness-kept = λ s. s;
@@ -36,7 +36,7 @@ module _ {V : Type 0} (a : Algebra V) (laws : Laws a) where
     join-through (ts ∷ more) lists rs ss runs others here there =
         one .join-kept rs ts runs more here lists ∙ two .join-kept ts ss more others lists there
 
-    means-through : (rank : ℕ → ℕ) → Lawful rank E → Means-the-same a D label F label″
+    pub means-through : (rank : ℕ → ℕ) → Lawful rank E → Means-the-same a D label F label″
     means-through rank lawful =
         record {
           soundness-kept = λ s. two .soundness-kept (one .soundness-kept s);
@@ -47,7 +47,7 @@ module _ {V : Type 0} (a : Algebra V) (laws : Laws a) where
         }
 
   -- one move
-  moved-once : (rank : ℕ → ℕ) (D : Diagram) (label : ℕ → V) (m : Move) → Lawful rank D → Labels-belong a D label → may-move D m ≡ true → Kept a rank D label (after D m) (label-after a D label m)
+  pub moved-once : (rank : ℕ → ℕ) (D : Diagram) (label : ℕ → V) (m : Move) → Lawful rank D → Labels-belong a D label → may-move D m ≡ true → Kept a rank D label (after D m) (label-after a D label m)
   moved-once rank D label (merge i j) lawful belong h = merging-keeps-the-meaning a laws rank D label i j lawful belong h
   moved-once rank D label (shortcut r m) lawful belong h = shortcutting-keeps-the-meaning a laws rank D label r m lawful belong h
 

@@ -179,7 +179,7 @@ module _ (rank : ℕ → ℕ) (D : Diagram) (lawful : Lawful rank D) where
         subst (λ F. Lawful rank F × (purse rank F < purse rank D)) (sym (cond-false (leads-to E m) E (struck E m) no)) (lawful-S no, omega arith))
         (cases-bool (leads-to E m))
 
-  each-spends : (move : Move) → may-reduce D move ≡ true → Lawful rank (after D move) × (purse rank (after D move) < purse rank D)
+  pub each-spends : (move : Move) → may-reduce D move ≡ true → Lawful rank (after D move) × (purse rank (after D move) < purse rank D)
   each-spends (merge i j) h = let may = mergeable rank D lawful i j h in (merged-lawful rank D lawful i j may, merge-spends i j may)
   each-spends (shortcut r m) h =
       let parts = and-parts (eqb (outcomes D m) 1) (may-shortcut D r m) h in

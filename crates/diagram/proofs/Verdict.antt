@@ -20,7 +20,7 @@ use Rattle.diagram.proofs.Twins.{Two, Full, all-full, rank-bounded}
 
 module _ (rank : ℕ → ℕ) (D : Diagram) (lawful : Lawful rank D) where
   -- where all wait at the end nothing happens
-  still : {M X : Marking} {rs : List ℕ} → AtEnd D M → Run D M rs X → AtEnd D X
+  pub still : {M X : Marking} {rs : List ℕ} → AtEnd D M → Run D M rs X → AtEnd D X
   still ends stop = ends
   still {M} ends (go {r = t} can rest) = absurd (end-is-still D M rank lawful ends t can)
 
@@ -36,7 +36,7 @@ module _ (rank : ℕ → ℕ) (D : Diagram) (lawful : Lawful rank D) where
       let of′ : D .step t ≡ 0 = sym (can .1 .1 (someone .0) (someone .1)) in
       inr (still (λ p lt. moved D first t p (ap (λ k. D .part k p) of′ ∙ lawful .start-full p lt) ∙ straight t (can .0) of′ p lt) rest)
 
-  one-is-sound : One-row-left D → Sound D
+  pub one-is-sound : One-row-left D → Sound D
   one-is-sound one =
       let r = one .row in
       let can : Can D first r = (one .in-use, subst (Enabled D first) (sym (one .from-start)) (lawful .start-inner, λ p in′. refl)) in

@@ -2,12 +2,16 @@
 use mathlib.Core.Bool.{true}
 use mathlib.Core.List.{List}
 use mathlib.Core.Path.{_≡_}
-use Prim.Native.Nat.{ℕ, _+_, _-_, _*_, _≤_, _<_}
+use Prim.Native.Nat.{ℕ, zero, suc, _+_, _-_, _*_, _≤_, _<_}
 use lib.ListN.{length}
+use Rattle.std.specs.declared.option.Option.{Option}
+use Rattle.std.specs.declared.option.Option.the-variants.{Some, None}
 use Rattle.numbers.specs.Below.{count-below}
 use Rattle.analysis.specs.Algebra.{Algebra}
 use Rattle.diagram.specs.Diagrams.{Diagram, Inner, Lawful}
-use Rattle.diagram.specs.Moves.{Move, may-reduce, Moved, Nothing-left}
+use Rattle.diagram.specs.Moves.{Move, after, label-after, may-reduce, Moved, least-move, Nothing-left}
+use Rattle.diagram.specs.Meaning.{Labels-belong}
+use Rattle.diagram.specs.RunLabels.{Join}
 use Rattle.diagram.specs.Runs.{Sound}
 
 -- how many rows are in use
@@ -35,3 +39,28 @@ pub record One-row-left (D : Diagram) : Type 0 where
 -- Where nothing is left to take, a lawful diagram is sound exactly when one row from the start to the end is all that stands.
 abbrev pub The-verdict-is-right : Type 0
 The-verdict-is-right = (rank : ℕ → ℕ) (D : Diagram) → Lawful rank D → Nothing-left D → (Sound D → One-row-left D) × (One-row-left D → Sound D)
+
+-- a diagram with labels, after a move or as it is where there is none
+abbrev pub moved-by : {V : Type 0} → Algebra V → Diagram × (ℕ → V) → Option Move → Diagram × (ℕ → V)
+moved-by a S (Some m) = (after (S .0) m, label-after a (S .0) (S .1) m)
+moved-by a S None = S
+
+-- and after the least move, n times
+unfoldable pub reduced : {V : Type 0} → Algebra V → ℕ → Diagram × (ℕ → V) → Diagram × (ℕ → V)
+reduced a zero S = S
+reduced a (suc n) S = reduced a n (moved-by a S (least-move (S .0)))
+
+-- What repeating the least move comes to, for a diagram with labels and what is left of both.
+pub record Reduced-rightly {V : Type 0} (a : Algebra V) (D : Diagram) (label : ℕ → V) (left : Diagram × (ℕ → V)) : Type 0 where
+  -- it has ended
+  pub ended : Nothing-left (left .0)
+  -- one row is left exactly when the diagram is sound
+  pub sound-one : Sound D → One-row-left (left .0)
+  pub one-sound : One-row-left (left .0) → Sound D
+  -- and its label is the join over all complete runs of the diagram
+  pub label-joins : (one : One-row-left (left .0)) → Join a label D ((left .1) (one .row))
+
+-- Repeating the least move as often as the bound says decides soundness, and tells the join.
+abbrev pub Reduction-decides : {V : Type 0} → Algebra V → Type 0
+Reduction-decides {V} a =
+    (rank : ℕ → ℕ) (D : Diagram) (label : ℕ → V) → Lawful rank D → Labels-belong a D label → Reduced-rightly a D label (reduced a (rows D * (steps D - 1)) (D, label))

@@ -2,7 +2,7 @@
 // Each function carries one theorem.
 ghost use Rattle.diagram.specs.Decided.{Complete-runs-are-listed, Completeness-is-decided, Soundness-is-decided};
 ghost use Rattle.diagram.specs.LawfulDrawn.{Lawfulness-is-told};
-ghost use Rattle.diagram.specs.Reducing.{Reductions-are-bounded, The-verdict-is-right};
+ghost use Rattle.diagram.specs.Reducing.{Reductions-are-bounded, The-verdict-is-right, Reduction-decides};
 ghost use Rattle.diagram.specs.Meaning.{Merging-keeps-the-meaning, Shortcutting-keeps-the-meaning, Moving-keeps-the-meaning};
 ghost use Rattle.diagram.specs.Progress.{Taking-keeps-markings-lawful, Runs-are-bounded};
 ghost use Rattle.diagram.specs.RunLabels.{Lists-join-alike};
@@ -74,4 +74,9 @@ pub fn reductions_are_bounded_holds<K: Kind>()
 // Where nothing is left to take, one row from the start to the end tells a sound diagram.
 pub fn the_verdict_is_right_holds()
     ensures { λ _. ⌜ The-verdict-is-right ⌝ }
+{}
+
+// Repeating the least move decides soundness and tells the join, for any kind of label.
+pub fn reduction_decides_holds<K: Kind>()
+    ensures { λ _. ⌜ Reduction-decides (K·Kind .algebra) ⌝ }
 {}
