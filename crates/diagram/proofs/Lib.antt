@@ -26,4 +26,6 @@ pub mod Lowest
 pub mod Twins
 pub mod Leftover
 pub mod Verdict
+pub mod OneRow
 pub mod Reducing
+pub mod Made

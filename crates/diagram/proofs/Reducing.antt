@@ -22,6 +22,7 @@ use Rattle.diagram.specs.RunLabels.{run-label, joined-from, Lists-complete, Jo
 use Rattle.diagram.specs.Runs.{Marking, first, AtEnd, Enabled, Can, take-row, Run, stop, go, Complete, Sound}
 use Rattle.diagram.proofs.Members.{has-none, has-here, has-cons}
 use Rattle.diagram.proofs.Moving.{means-itself, means-through, moved-once}
+use Rattle.diagram.proofs.OneRow.{one-tells, one-from}
 use Rattle.diagram.proofs.Shrinking.{each-spends}
 use Rattle.diagram.proofs.Spending.{purse, purse-bounded}
 use Rattle.diagram.proofs.Taking.{moved}
@@ -164,8 +165,10 @@ reduction-decides a laws rank D label lawful belong =
     let verdict = the-verdict-is-right rank (R .0) (left .kept .still-lawful) ends in
     record {
       ended = ends;
-      sound-one = λ sound. verdict .0 (left .kept .same-meaning .soundness-kept sound);
-      one-sound = λ one. left .kept .same-meaning .soundness-back (verdict .1 one);
+      decides = (
+        λ h. left .kept .same-meaning .soundness-back (verdict .1 (one-tells rank (R .0) (left .kept .still-lawful) h)),
+        λ sound. one-from rank (R .0) (left .kept .still-lawful) (verdict .0 (left .kept .same-meaning .soundness-kept sound)),
+      );
       label-joins = λ one rs runs lists.
           left .kept .same-meaning .join-kept rs (one .row ∷ []) runs [] lists (alone-listed rank (R .0) (left .kept .still-lawful) one)
           ∙ laws .unit-then ((R .1) (one .row));

@@ -4,6 +4,7 @@ use mathlib.Core.List.{List, _∷_}
 use mathlib.Core.Path.{_≡_}
 use Prim.Native.Nat.{ℕ}
 use Rattle.analysis.specs.Algebra.{Algebra}
+use Rattle.analysis.specs.Parties.{Set}
 use Rattle.diagram.specs.Diagrams.{Diagram, Lawful}
 use Rattle.diagram.specs.Moves.{may-merge, after-merge, label-after-merge, may-shortcut, after-shortcut, label-after-shortcut, Move, may-move, Moved}
 use Rattle.diagram.specs.RunLabels.{run-label, joined-from, Lists-complete}
@@ -12,6 +13,10 @@ use Rattle.diagram.specs.Runs.{Complete, Sound}
 -- each row's label belongs to its step's parties
 abbrev pub Labels-belong : {V : Type 0} → Algebra V → Diagram → (ℕ → V) → Type 0
 Labels-belong a D label = (r : ℕ) → D .used r ≡ true → a .belongs (label r) (D .part (D .step r)) ≡ true
+
+-- Whatever bytes a label is made from, it belongs to the set that it was made for.
+abbrev pub Made-labels-belong : {V : Type 0} → Algebra V → Type 0
+Made-labels-belong a = (bytes : List ℕ) (P : Set) → a .belongs (a .make bytes P) P ≡ true
 
 -- there is a complete run
 abbrev pub Completes : Diagram → Type 0

@@ -3,7 +3,7 @@
 ghost use Rattle.diagram.specs.Decided.{Complete-runs-are-listed, Completeness-is-decided, Soundness-is-decided};
 ghost use Rattle.diagram.specs.LawfulDrawn.{Lawfulness-is-told};
 ghost use Rattle.diagram.specs.Reducing.{Reductions-are-bounded, The-verdict-is-right, Reduction-decides};
-ghost use Rattle.diagram.specs.Meaning.{Merging-keeps-the-meaning, Shortcutting-keeps-the-meaning, Moving-keeps-the-meaning};
+ghost use Rattle.diagram.specs.Meaning.{Made-labels-belong, Merging-keeps-the-meaning, Shortcutting-keeps-the-meaning, Moving-keeps-the-meaning};
 ghost use Rattle.diagram.specs.Progress.{Taking-keeps-markings-lawful, Runs-are-bounded};
 ghost use Rattle.diagram.specs.RunLabels.{Lists-join-alike};
 ghost use Rattle.diagram.specs.Worked.{Worked-table};
@@ -49,6 +49,11 @@ pub fn lists_join_alike_holds<K: Kind>()
 // Three diagrams worked by hand, and three wrong rules told apart.
 pub fn worked_table_holds()
     ensures { λ _. ⌜ Worked-table ⌝ }
+{}
+
+// A label belongs to the set that it is made for, whatever its bytes, for any kind of label.
+pub fn made_labels_belong_holds<K: Kind>()
+    ensures { λ _. ⌜ Made-labels-belong (K·Kind .algebra) ⌝ }
 {}
 
 // A merge that may be taken keeps lawfulness, labels and meaning, for any kind of label.
