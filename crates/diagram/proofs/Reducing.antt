@@ -17,7 +17,7 @@ use Rattle.analysis.specs.Algebra.{Algebra, Laws}
 use Rattle.diagram.specs.Diagrams.{Diagram, Inner, Lawful}
 use Rattle.diagram.specs.Meaning.{Labels-belong, Means-the-same, Kept}
 use Rattle.diagram.specs.Moves.{Move, merge, shortcut, after, label-after, may-merge, may-shortcut, may-move, may-reduce, outcomes, merges-with, shortcuts-into, first-merging, first-shortcutting, least-move, Nothing-left}
-use Rattle.diagram.specs.Reducing.{rows, steps, One-row-left, moved-by, reduced, Reduced-rightly, Reduction-decides}
+use Rattle.diagram.specs.Reducing.{most-moves, One-row-left, moved-by, reduced, Reduced-rightly, Reduction-decides}
 use Rattle.diagram.specs.RunLabels.{run-label, joined-from, Lists-complete, Join}
 use Rattle.diagram.specs.Runs.{Marking, first, AtEnd, Enabled, Can, take-row, Run, stop, go, Complete, Sound}
 use Rattle.diagram.proofs.Members.{has-none, has-here, has-cons}
@@ -159,8 +159,8 @@ module _ (rank : ℕ → ℕ) (D : Diagram) (lawful : Lawful rank D) (one : One-
 
 pub reduction-decides : {V : Type 0} (a : Algebra V) → Laws a → Reduction-decides a
 reduction-decides a laws rank D label lawful belong =
-    let left = reduced-left a laws (rows D * (steps D - 1)) rank D label lawful belong in
-    let R = reduced a (rows D * (steps D - 1)) (D, label) in
+    let left = reduced-left a laws (most-moves D) rank D label lawful belong in
+    let R = reduced a (most-moves D) (D, label) in
     let ends = left .ended (purse-bounded rank D lawful) in
     let verdict = the-verdict-is-right rank (R .0) (left .kept .still-lawful) ends in
     record {

@@ -9,7 +9,7 @@ use Rattle.std.proofs.shelf.Tests.{both-ways, cases-bool, and-parts, and-from, 
 use Rattle.numbers.specs.Below.{sum-below, count-below, some-below}
 use Rattle.numbers.proofs.BelowLaws.{none-at, some-none}
 use Rattle.diagram.specs.Diagrams.{Diagram, Inner, Lawful}
-use Rattle.diagram.specs.Reducing.{rows, steps}
+use Rattle.diagram.specs.Reducing.{steps, most-moves}
 use Rattle.diagram.specs.Runs.{first}
 use Rattle.diagram.specs.Walks.{inner}
 use Rattle.diagram.proofs.Counting.{count-le, count-lt, weighed-le}
@@ -79,5 +79,5 @@ module _ (rank : ℕ → ℕ) (D : Diagram) where
         (ap (λ b. b && not (eqb (D .end) (D .end))) (lawful .end-stands) ∙ ap not (eq-eqb (D .end) (D .end) refl)) (lawful .end-stands) in
         omega arith
 
-    pub purse-bounded : purse ≤ rows D * (steps D - 1)
+    pub purse-bounded : purse ≤ most-moves D
     purse-bounded = weighed-le (D .size) (steps D - 1) (D .used) (λ t. suc (avail t)) (λ t lt use′. avail-bounded t use′)

@@ -25,10 +25,14 @@ rows D = count-below (D .size) (D .used)
 abbrev pub steps : Diagram → ℕ
 steps D = count-below (D .end + 1) (D .stands)
 
+-- the rows, times the steps less one
+abbrev pub most-moves : Diagram → ℕ
+most-moves D = rows D * (steps D - 1)
+
 -- A lawful diagram is reduced by no more moves than it has rows, times its steps less one.
 abbrev pub Reductions-are-bounded : {V : Type 0} → Algebra V → Type 0
 Reductions-are-bounded {V} a =
-    (rank : ℕ → ℕ) (D : Diagram) (label : ℕ → V) (moves : List Move) (D′ : Diagram) (label′ : ℕ → V) → Lawful rank D → Moved a may-reduce D label moves D′ label′ → length moves ≤ rows D * (steps D - 1)
+    (rank : ℕ → ℕ) (D : Diagram) (label : ℕ → V) (moves : List Move) (D′ : Diagram) (label′ : ℕ → V) → Lawful rank D → Moved a may-reduce D label moves D′ label′ → length moves ≤ most-moves D
 
 -- one row from the start to the end is all that stands
 pub record One-row-left (D : Diagram) : Type 0 where
@@ -75,4 +79,4 @@ pub record Reduced-rightly {V : Type 0} (a : Algebra V) (D : Diagram) (label : �
 -- Repeating the least move as often as the bound says decides soundness, and tells the join.
 abbrev pub Reduction-decides : {V : Type 0} → Algebra V → Type 0
 Reduction-decides {V} a =
-    (rank : ℕ → ℕ) (D : Diagram) (label : ℕ → V) → Lawful rank D → Labels-belong a D label → Reduced-rightly a D label (reduced a (rows D * (steps D - 1)) (D, label))
+    (rank : ℕ → ℕ) (D : Diagram) (label : ℕ → V) → Lawful rank D → Labels-belong a D label → Reduced-rightly a D label (reduced a (most-moves D) (D, label))
