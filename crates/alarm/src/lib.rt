@@ -1,5 +1,7 @@
 // A kind of label as another firm might write it, outside the crate of the trait: whether a run may sound the alarm.
 // Its labels are not one to one with its values: any loudness above 0 means the same.
+#![tactic(auto)]
+
 ghost use Rattle.std.specs.Prelude.{◌≡◌, Bool, nat_lt};
 ghost use Rattle.alarm.specs.AlarmAlgebra.{alarm_algebra};
 ghost use Rattle.alarm.specs.AlarmLaws.{alarm_laws};

@@ -1,4 +1,5 @@
 // Kinds of label: the trait of a kind with its laws, and cost, flags and definitions. No heap.
+#![tactic(auto)]
 
 pub mod cost;
 pub mod definitions;

@@ -1,5 +1,7 @@
 // Diagrams, markings, runs and soundness: the words that every later promise is made in, and what holds of them.
 // Each function carries one theorem.
+#![tactic(auto)]
+
 ghost use Rattle.diagram.specs.Decided.{CompleteRunsAreListed, CompletenessIsDecided, SoundnessIsDecided};
 ghost use Rattle.diagram.specs.LawfulDrawn.{LawfulnessIsTold};
 ghost use Rattle.diagram.specs.Reducing.{ReductionsAreBounded, TheVerdictIsRight, ReductionDecides};

@@ -1,4 +1,5 @@
 // A setup file, layer by layer: blocks, records, and the names in them. No heap, no copy of the file.
+#![tactic(auto)]
 
 pub mod blocks;
 mod bytes;

@@ -1,4 +1,5 @@
 // A diagram in the knee: the sheet, the shelf of its labels, and loading both from a setup file. No heap.
+#![tactic(auto)]
 
 mod draft;
 mod records;

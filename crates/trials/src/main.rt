@@ -1,5 +1,6 @@
 // Changes a sample file in every way that a rule speaks of, and counts how often the answer is the rule's.
 // It writes and seals the changed files by code of its own.
+#![tactic(auto)]
 
 use format::faults::Fault;
 use format::names::name;

@@ -1,4 +1,5 @@
 // The command line over the libraries: reads a setup file, asks them, and prints what they answer.
+#![tactic(auto)]
 
 mod commands;
 mod failures;

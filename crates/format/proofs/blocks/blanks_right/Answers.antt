@@ -18,20 +18,20 @@ loop-record-init c =
     let within = (first_blank_tells c.args.file.now).within in
     (c.at-reader.ensures.file, omega (arith, c.at-reader.ensures.place), omega arith, omega (arith, within, c.requires), λ k lt. absurd (omega arith))
 
-pub returns-then-not-blank-right : goal.returns-then-not-blank-right
-returns-then-not-blank-right c =
-    let at = (goal.at.returns-then-not-blank-right c).In-Some in
+pub returns-then-not-blank_right : goal.returns-then-not-blank_right
+returns-then-not-blank_right c =
+    let at = (goal.at.returns-then-not-blank_right c).In-Some in
     let file = c.args.file.now in
     sym (ap not (⊎_elim
     (λ many. blanks_many file (omega (arith, c.requires, more at, ltb-false c.loop-record.blanks 8 many)))
     (λ nonzero. blanks_bad file (c.args.first + c.loop-record.blanks) (omega (arith, c.requires)) (more at) (sym (ap some_nonzero (here at)) ∙ not-false _ nonzero))
-    (and_cases (ltb c.loop-record.blanks 8) (not (some_nonzero c.in-Some.record.now)) (sym c.if-not-blank-right.ensures))))
+    (and_cases (ltb c.loop-record.blanks 8) (not (some_nonzero c.in-Some.record.now)) (sym c.if-not-blank_right.ensures))))
 
 pub loop-record-preserved : goal.loop-record-preserved
 loop-record-preserved c =
     let at = (goal.at.loop-record-preserved c).In-Some in
     let read = c.in-Some.ensures.read in
-    let right = and_parts (ltb c.loop-record.blanks 8) (not (some_nonzero c.in-Some.record.now)) (sym c.if-not-blank-right.ensures) in (
+    let right = and_parts (ltb c.loop-record.blanks 8) (not (some_nonzero c.in-Some.record.now)) (sym c.if-not-blank_right.ensures) in (
       cc (c.in-Some.ensures.file, c.loop-record.invariant.0),
       omega (arith, read.1, c.loop-record.invariant.1),
       omega (arith, ltb-true c.loop-record.blanks 8 right.0),
@@ -42,7 +42,7 @@ loop-record-preserved c =
 pub returns : goal.returns
 returns c =
     let file = c.args.file.now in
-    let done = rw (c.loop-record.invariant.0, c.loop-record.invariant.1) at c.in-default.ensures.read.0 in
+    let done = rw (c.loop-record.invariant.0, c.loop-record.invariant.1) at c.in_default.ensures.read.0 in
     sym (ap not (blanks_good file
     (λ k le lt.
     let back : c.args.first + (k - c.args.first) ≡ k = omega (arith, c.requires) in

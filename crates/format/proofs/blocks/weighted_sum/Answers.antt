@@ -8,14 +8,14 @@ use Rattle.format.proofs.blocks.weighted_sum.Goals.{After-from}
 
 -- no weighted byte exceeds 508 × 255
 few : (c : After-from) → (c.loop-i.i + 1) * c.from.result ≤ 129540
-few c = mul-le (c.loop-i.i + 1) c.from.result 508 255 (omega arith) (omega (arith, c.type-inv.block c.loop-i.i))
+few c = mul-le (c.loop-i.i + 1) c.from.result 508 255 (omega arith) (omega (arith, c.type_inv.block c.loop-i.i))
 
 pub loop-i-init : goal.loop-i-init
 unfolding sum_below
 loop-i-init c = (refl, omega arith)
 
-pub overflow-add-sum-in-loop-i : goal.overflow-add-sum-in-loop-i
-overflow-add-sum-in-loop-i c = omega (arith, few c)
+pub overflow_add-sum-in-loop-i : goal.overflow_add-sum-in-loop-i
+overflow_add-sum-in-loop-i c = omega (arith, few c)
 
 pub loop-i-preserved : goal.loop-i-preserved
 loop-i-preserved c =

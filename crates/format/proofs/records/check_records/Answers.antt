@@ -19,11 +19,11 @@ inside c = rw (sym c.loop-record.invariant.0) c.in-Some.ensures.read.0
 same_checks : (c : In-Some) → record_checks c.loop-record.ahead c.in-Some.record.now ≡ record_checks_at c.args.file.now c.loop-record.reader.place
 same_checks c = λ i. record_checks (c.loop-record.invariant.2 i) (read_at c i)
 
-pub returns-in-err-check-blocks : goal.returns-in-err-check-blocks
-returns-in-err-check-blocks c =
+pub returns-in_err-check_blocks : goal.returns-in_err-check_blocks
+returns-in_err-check_blocks c =
     let file = c.args.file.now in
-    let p = err_from_is_err_and c.from-residual.result c.from-residual.ensures.1 in
-    rw (p.1, p.2) (record { refused = sym (stops (block_layer file) (each_below (record_count file) (record_checks_at file)) _ (sym c.in-err-check-blocks.ensures)); counted = tt })
+    let p = err_from_is_err_and c.from_residual.result c.from_residual.ensures.1 in
+    rw (p.1, p.2) (record { refused = sym (stops (block_layer file) (each_below (record_count file) (record_checks_at file)) _ (sym c.in_err-check_blocks.ensures)); counted = tt })
 
 pub loop-record-init : goal.loop-record-init
 unfolding sum_below
@@ -36,16 +36,16 @@ loop-record-init c =
       ap (λ n. first_failing (each_below n (record_checks_at file))) start ∙ each_none (record_checks_at file),
     )
 
-pub returns-in-err-check : goal.returns-in-err-check
-returns-in-err-check c =
-    let at = (goal.at.returns-in-err-check c).In-Some in
+pub returns-in_err-check : goal.returns-in_err-check
+returns-in_err-check c =
+    let at = (goal.at.returns-in_err-check c).In-Some in
     let file = c.args.file.now in
-    let p = err_from_is_err_and c.from-residual-in-err-check.result c.from-residual-in-err-check.ensures.1 in
+    let p = err_from_is_err_and c.from_residual-in_err-check.result c.from_residual-in_err-check.ensures.1 in
     rw (p.1, p.2) (record {
       refused =
-          sym (past (block_layer file) (each_below (record_count file) (record_checks_at file)) (sym c.in-ok-check-blocks.ensures)
+          sym (past (block_layer file) (each_below (record_count file) (record_checks_at file)) (sym c.in_ok-check_blocks.ensures)
           ∙ each_stops (record_count file) (record_checks_at file) c.loop-record.reader.place _ (inside at) c.loop-record.invariant.3
-          (ap first_failing (sym (same_checks at)) ∙ sym c.in-err-check.ensures));
+          (ap first_failing (sym (same_checks at)) ∙ sym c.in_err-check.ensures));
       counted = tt;
     })
 
@@ -53,14 +53,14 @@ pub behind-ahead-requires : goal.behind-ahead-requires
 behind-ahead-requires c =
     let file = c.args.file.now in
     let place = c.loop-record.reader.place in
-    let same = c.loop-record.invariant.2 in (
-      c.in-Some.ensures.read.3,
-      (
+    let same = c.loop-record.invariant.2 in record {
+      rec_len = c.in-Some.ensures.read.3;
+      records_bound = (
         omega (arith, ap (λ a. a.records) same, inside (goal.at.behind-ahead-requires c).In-Some),
         omega (arith, ap (λ a. a.records) same, ap (λ a. a.steps) same, count_le place (λ k. is_step (record_of file k))),
         omega (arith, ap (λ a. a.records) same, ap (λ a. a.outcomes) same, count_le place (λ k. is_outcome (record_of file k))),
-      ),
-    )
+      );
+    }
 
 pub loop-record-preserved : goal.loop-record-preserved
 loop-record-preserved c =
@@ -74,18 +74,18 @@ loop-record-preserved c =
       ap (λ n. first_failing (each_below n (record_checks_at file))) next
           ∙ each_more place (record_checks_at file) c.loop-record.invariant.3
           ∙ ap first_failing (sym (same_checks at))
-          ∙ sym c.in-ok-check.ensures,
+          ∙ sym c.in_ok-check.ensures,
     )
 
 pub returns : goal.returns
 returns c =
     let file = c.args.file.now in
-    let past_all = rw c.loop-record.invariant.0 at c.in-default.ensures.read.0 in
+    let past_all = rw c.loop-record.invariant.0 at c.in_default.ensures.read.0 in
     let all : c.loop-record.reader.place ≡ record_count file = omega (arith, past_all, c.loop-record.invariant.1) in
     let same = c.loop-record.invariant.2 ∙ ap (ahead_of file) all in
     record {
       refused =
-          sym (past (block_layer file) (each_below (record_count file) (record_checks_at file)) (sym c.in-ok-check-blocks.ensures)
+          sym (past (block_layer file) (each_below (record_count file) (record_checks_at file)) (sym c.in_ok-check_blocks.ensures)
           ∙ ap (λ n. first_failing (each_below n (record_checks_at file))) (sym all) ∙ c.loop-record.invariant.3);
       counted = λ i. record { steps = (same i).steps; outcomes = (same i).outcomes };
     }
