@@ -10,9 +10,9 @@ pub loop-flag-init : goal.loop-flag-init
 unfolding some_below
 loop-flag-init c = refl
 
-pub returns-then-strays-outside : goal.returns-then-strays-outside
-returns-then-strays-outside c =
-    sym (ap not (some_found 3 (λ i. not (members c.args.parties i) && some_below 64 (λ k. strays c.args.relation i (k / 8) (k % 8))) c.loop-flag.flag c.loop-flag-test.true (sym c.if-strays-outside.ensures)))
+pub returns-then-strays_outside : goal.returns-then-strays_outside
+returns-then-strays_outside c =
+    sym (ap not (some_found 3 (λ i. not (members c.args.parties i) && some_below 64 (λ k. strays c.args.relation i (k / 8) (k % 8))) c.loop-flag.flag c.loop-flag-test.true (sym c.if-strays_outside.ensures)))
 
 pub loop-flag-preserved : goal.loop-flag-preserved
-loop-flag-preserved c = some_more c.loop-flag.flag _ ∙ or_from _ _ (sym c.if-strays-outside.ensures) c.loop-flag.invariant
+loop-flag-preserved c = some_more c.loop-flag.flag _ ∙ or_from _ _ (sym c.if-strays_outside.ensures) c.loop-flag.invariant

@@ -3,11 +3,11 @@ use Rattle.numbers.proofs.BitLaws.{bit_of_or}
 use Rattle.analysis.specs.DefinitionsLaws.{is_sited}
 use Rattle.analysis.proofs.definitions.as_kind.DefinitionsKind.either.Goals as goal
 
-pub invariant-of-result : goal.invariant-of-result
-invariant-of-result c =
+pub invariant_of-result : goal.invariant_of-result
+invariant_of-result c =
     let x = c.args.self.now in
     let y = c.args.other.now in
-    ((or_lt 64 _ _ x.within.0 y.within.0, or_lt 64 _ _ x.within.1 y.within.1), tt)
+    record { within = (or_lt 64 _ _ x.within.0 y.within.0, or_lt 64 _ _ x.within.1 y.within.1) }
 
 pub returns : goal.returns
 returns c =

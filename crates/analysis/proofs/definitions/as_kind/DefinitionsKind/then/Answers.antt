@@ -7,8 +7,8 @@ use Rattle.analysis.specs.DefinitionsAlgebra.{defined}
 use Rattle.analysis.specs.DefinitionsLaws.{is_sited}
 use Rattle.analysis.proofs.definitions.as_kind.DefinitionsKind.then.Goals as goal
 
-pub invariant-of-result : goal.invariant-of-result
-invariant-of-result c = ((omega (arith, and_le_l c.args.self.now.keep c.args.other.now.keep), c.reaching.type-inv), tt)
+pub invariant_of-result : goal.invariant_of-result
+invariant_of-result c = record { within = (omega (arith, and_le_l c.args.self.now.keep c.args.other.now.keep), c.reaching.type_inv) }
 
 pub returns : goal.returns
 returns c =

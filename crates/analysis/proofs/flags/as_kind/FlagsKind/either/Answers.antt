@@ -6,8 +6,8 @@ use Rattle.analysis.specs.FlagsAlgebra.{may, related}
 use Rattle.analysis.specs.FlagPairs.{same_flags}
 use Rattle.analysis.proofs.flags.as_kind.FlagsKind.either.Goals as goal
 
-pub invariant-of-result : goal.invariant-of-result
-invariant-of-result c = (or_lt 64 _ _ c.args.self.now.within c.args.other.now.within, tt)
+pub invariant_of-result : goal.invariant_of-result
+invariant_of-result c = record { within = or_lt 64 _ _ c.args.self.now.within c.args.other.now.within }
 
 pub returns : goal.returns
 returns c =
