@@ -12,6 +12,7 @@ use format::names::name;
 use format::records::check_records;
 use std::env;
 use std::io::Write;
+use std::process::ExitCode;
 
 // A line for each record that is not blank: its number and its name.
 fn print_names(rt: &HostRuntime, file: &[u8]) -> Result<(), Failure> {
@@ -49,12 +50,13 @@ fn run(rt: &HostRuntime) -> Result<(), Failure> {
     Ok(())
 }
 
-fn main(rt: HostRuntime) -> Result<(), Failure> {
+// An error that main returned would be printed once more, so it returns the status alone.
+fn main(rt: HostRuntime) -> ExitCode {
     match run(&rt) {
-        Ok(()) => Ok(()),
+        Ok(()) => ExitCode::SUCCESS,
         Err(failure) => {
             let _ = eprintln!(rt; "{failure}");
-            Err(failure)
+            ExitCode::FAILURE
         }
     }
 }
