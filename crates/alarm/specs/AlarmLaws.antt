@@ -1,7 +1,6 @@
 -- The alarm keeps the laws.
 use Rattle.std.specs.Prelude.{◌≡◌, Bool, true, false, ◌||◌, refl}
 use Rattle.std.proofs.Math.Bool.{or_assoc, or_comm, or_self, or-false}
-use Rattle.std.proofs.Common.{sym}
 use Rattle.std.proofs.lemmas.Bool.{true≢false}
 use Rattle.analysis.specs.Algebra.{Laws}
 use Rattle.alarm.specs.AlarmAlgebra.{alarm_algebra}

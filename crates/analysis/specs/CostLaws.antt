@@ -1,5 +1,5 @@
 -- Cost keeps the laws.
-use Rattle.std.specs.Prelude.{◌≡◌, ℕ, ◌≤◌, min, max, true, false, cond, refl}
+use Rattle.std.specs.Prelude.{◌≡◌, ℕ, ◌≤◌, min, max, refl}
 use mathlib.Core.HLevel.{is_prop→PathP, ×_prop}
 use Rattle.std.proofs.Common.{sym, ap, ◌∙◌, arith}
 use Rattle.std.proofs.Math.Bridge.{le_prop}

@@ -1,14 +1,14 @@
 -- Flipping flags on both sides of a pair, until it is another pair.
-use Rattle.std.specs.Prelude.{◌≡◌, ℕ, zero, suc, ◌/◌, ◌%◌, ◌^◌, ◌<◌, ◌≤◌, Bool, true, false, cond, not, ◌&&◌, ◌||◌, ◌⊎◌, ◌==◌, ◌≢◌, nat_eq, refl}
-use Rattle.std.proofs.Common.{inl, inr, ⊎_elim, sym, ap, subst, ◌∙◌, arith}
-use Rattle.std.proofs.lemmas.Bool.{both_ways, cases_Bool, cases_eq, eqb-true, eq-eqb, ne_eqb, cond-true, cond-false}
+use Rattle.std.specs.Prelude.{◌≡◌, ℕ, zero, suc, ◌/◌, ◌%◌, ◌^◌, ◌<◌, ◌≤◌, Bool, true, false, cond, not, ◌⊎◌, ◌==◌, ◌≢◌, nat_eq, refl}
+use Rattle.std.proofs.Common.{inl, inr, ⊎_elim, sym, ap, ◌∙◌, arith}
+use Rattle.std.proofs.lemmas.Bool.{cases_eq, eqb-true, eq-eqb, ne_eqb, cond-true, cond-false}
 use Rattle.numbers.specs.Below.{some_below}
 use Rattle.numbers.specs.Bits.{bit, from_bits}
 use Rattle.numbers.proofs.BelowLaws.{none_at}
 use Rattle.numbers.proofs.BitLaws.{from_bits_self, from_bits_same}
 use Rattle.analysis.specs.FlagsAlgebra.{may, same_flag, flipped, stays_within}
 use Rattle.analysis.specs.Parties.{Set}
-use Rattle.analysis.specs.FlagPairs.{Keeps, stays_at, flipped_below}
+use Rattle.analysis.specs.FlagPairs.{stays_at, flipped_below}
 
 abbrev differ : Bool → Bool → Bool
 differ true b = not b

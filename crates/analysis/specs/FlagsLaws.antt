@@ -1,7 +1,7 @@
 -- Flags keep the laws.
-use Rattle.std.specs.Prelude.{◌≡◌, ℕ, ◌/◌, ◌%◌, ◌^◌, ◌<◌, Bool, true, false, cond, not, ◌&&◌, ◌||◌, ◌⊎◌, nat_eq, refl}
+use Rattle.std.specs.Prelude.{◌≡◌, ℕ, ◌/◌, ◌%◌, ◌^◌, ◌<◌, Bool, true, false, cond, ◌||◌, ◌⊎◌, nat_eq, refl}
 use Rattle.std.proofs.Math.Bool.{or_assoc, or_comm, or_self}
-use Rattle.std.proofs.Common.{inl, inr, ⊎_elim, sym, ap, subst, ◌∙◌, arith}
+use Rattle.std.proofs.Common.{inl, inr, ⊎_elim, sym, ap, ◌∙◌}
 use Rattle.std.proofs.lemmas.Bool.{both_ways, cases_Bool, cond-true, cond-false, eqb-true, eq-eqb, or_cases, or_left, or_right}
 use Rattle.numbers.specs.Bits.{bit, from_bits}
 use Rattle.numbers.proofs.BitLaws.{same_test, from_bits_lt, from_bits_self}
@@ -10,7 +10,7 @@ use Rattle.analysis.specs.Algebra.{Laws}
 use Rattle.analysis.specs.FlagsAlgebra.{may, related, through, same_flag, flipped, stays_within, flags_algebra}
 use Rattle.analysis.specs.LabelBytes.{relation_in}
 use Rattle.analysis.specs.Parties.{Set, ◌⊆◌, Disjoint}
-use Rattle.analysis.specs.FlagPairs.{related_same, may_related, related_self, through_by, through_at, Keeps, stays_at, stays_from, flipped_below}
+use Rattle.analysis.specs.FlagPairs.{related_same, may_related, related_self, through_by, through_at, stays_at, stays_from, flipped_below}
 use Rattle.analysis.specs.FlagFlips.{same_bit, retarget}
 
 -- x then y, and x either y, as numbers

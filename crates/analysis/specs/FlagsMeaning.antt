@@ -1,6 +1,5 @@
 -- What composition of flags means, and a worked one.
 use Rattle.std.specs.Prelude.{◌≡◌, ℕ, ◌<◌}
-use Rattle.numbers.specs.Bits.{from_bits}
 use Rattle.analysis.specs.declared.flags.Flags.{Flags}
 use Rattle.analysis.specs.FlagsAlgebra.{may, related, through, flags_algebra}
 

@@ -1,7 +1,7 @@
 -- Runs are bounded.
-use Rattle.std.proofs.Common.{◌≡◌, ℕ, ◌+◌, ◌*◌, ◌<◌, ◌≤◌, true, List, [], ◌∷◌, length, arith}
+use Rattle.std.proofs.Common.{ℕ, ◌+◌, ◌*◌, ◌≤◌, List, length, arith}
 use Rattle.diagram.specs.Diagrams.{Diagram, Lawful}
-use Rattle.diagram.specs.Runs.{Marking, first, Waits, Run, stop, go, take_row}
+use Rattle.diagram.specs.Runs.{Marking, first, Waits, Run, stop, go}
 use Rattle.diagram.specs.Progress.{greatest_rank, RunsAreBounded}
 use Rattle.diagram.proofs.Sums.{sum_const_le, greatest_at}
 use Rattle.diagram.proofs.Taking.{taking_keeps_markings_lawful, height, height_rises}

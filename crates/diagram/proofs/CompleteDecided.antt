@@ -1,5 +1,5 @@
 -- Whether a run is complete is decided by taking its rows.
-use Rattle.std.proofs.Common.{◌≡◌, ℕ, true, ◌&&◌, List, [], ◌∷◌}
+use Rattle.std.proofs.Common.{◌≡◌, ℕ, true, List, [], ◌∷◌}
 use Rattle.std.proofs.lemmas.Bool.{and_parts, and_from}
 use Rattle.diagram.specs.Decided.{CompletenessIsDecided}
 use Rattle.diagram.specs.Diagrams.{Diagram, Lawful}

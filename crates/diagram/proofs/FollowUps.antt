@@ -1,9 +1,9 @@
 -- The follow-ups of a shortcut: one for each outcome of the target.
-use Rattle.std.proofs.Common.{◌≡◌, ℕ, zero, suc, ◌+◌, ◌<◌, ◌≤◌, Bool, true, false, cond, not, ◌&&◌, ◌||◌, eqb, ltb, leb, ◌⊎◌, sym, refl, ap, ◌∙◌, subst, ⊎_elim, arith}
+use Rattle.std.proofs.Common.{◌≡◌, ℕ, zero, suc, ◌+◌, ◌<◌, ◌≤◌, Bool, true, false, cond, not, ◌&&◌, eqb, ltb, sym, refl, ap, ◌∙◌, subst, ⊎_elim, arith}
 use mathlib.Core.Path.{fun_ext}
-use Rattle.std.proofs.lemmas.Bool.{both_ways, cases_Bool, cases_eq, cases_lt, and_parts, and_from, and_left, and_right, or_left, or_right, or_from, or_cases, not-true, not-false, eqb-true, eqb-false, eq-eqb, ne_eqb, lt-ltb, ltb-true, leb-true, cond-true, cond-false}
-use Rattle.numbers.specs.Below.{count_below, some_below, first_below}
-use Rattle.numbers.proofs.BelowLaws.{Least, first_tells, none_at, count_lt_count, count_tells, count_at}
+use Rattle.std.proofs.lemmas.Bool.{both_ways, cases_Bool, cases_lt, and_parts, and_from, and_left, and_right, or_left, or_right, or_from, or_cases, not-true, not-false, eqb-true, eqb-false, eq-eqb, ne_eqb, lt-ltb, ltb-true, leb-true, cond-true, cond-false}
+use Rattle.numbers.specs.Below.{count_below, first_below}
+use Rattle.numbers.proofs.BelowLaws.{first_tells, none_at, count_lt_count, count_tells, count_at}
 use Rattle.diagram.specs.Diagrams.{Diagram, Inner, Lawful}
 use Rattle.diagram.specs.Moves.{outcome_of, outcomes, free, is_target, enables, has_room, may_shortcut, turn, takes_follow_up, outcome_at, followed, with_follow_ups}
 use Rattle.diagram.specs.Runs.{Marking, first, take_row}

@@ -1,5 +1,5 @@
 -- The join of labels is their least upper bound, so it does not depend on the list.
-use Rattle.std.proofs.Common.{◌≡◌, ℕ, ◌⊎◌, List, [], ◌∷◌, sym, refl, ap, ◌∙◌, subst, ⊎_elim}
+use Rattle.std.proofs.Common.{◌≡◌, ℕ, List, [], ◌∷◌, sym, ap, ◌∙◌, subst, ⊎_elim}
 use Rattle.std.specs.List.{ContainsAt as Has}
 use Rattle.analysis.specs.Algebra.{Algebra, Laws}
 use Rattle.diagram.specs.Diagrams.{Diagram}

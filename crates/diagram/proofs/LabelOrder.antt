@@ -1,5 +1,5 @@
 -- Labels of runs, and the order that "either" gives.
-use Rattle.std.proofs.Common.{◌≡◌, ℕ, List, [], ◌∷◌, ◌++◌, fold, sym, refl, ap, ◌∙◌}
+use Rattle.std.proofs.Common.{◌≡◌, ℕ, List, [], ◌∷◌, fold, sym, ap, ◌∙◌}
 use Rattle.analysis.specs.Algebra.{Algebra, Laws}
 use Rattle.diagram.specs.RunLabels.{run_label}
 use Rattle.diagram.proofs.Joins.{Below}

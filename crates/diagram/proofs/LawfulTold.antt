@@ -1,8 +1,7 @@
 -- A drawn diagram that passes the test is lawful.
-use Rattle.std.proofs.Common.{◌≡◌, ℕ, ◌+◌, ◌^◌, ◌<◌, ◌≤◌, Bool, true, false, cond, not, ◌&&◌, eqb, ltb, ◌⊎◌, List, length, get_or, is_some, Some, None, Option, sym, refl, ap, ◌∙◌, ⊎_elim, arith, pow_pos, pow_mono}
+use Rattle.std.proofs.Common.{◌≡◌, ℕ, ◌+◌, ◌^◌, ◌<◌, ◌≤◌, Bool, true, not, ◌&&◌, eqb, ltb, List, length, get_or, is_some, None, Option, sym, ap, ◌∙◌, ⊎_elim, arith, pow_pos, pow_mono}
 use Rattle.std.proofs.lemmas.List.{get_or_past}
-use Rattle.std.proofs.lemmas.Bool.{false≢true, both_ways, cases_lt, and_parts, not-true, not-false, ltb-true, eqb-true, cond-true}
-use Rattle.numbers.specs.Below.{some_below}
+use Rattle.std.proofs.lemmas.Bool.{both_ways, cases_lt, and_parts, not-true, not-false, ltb-true, eqb-true, cond-true}
 use Rattle.numbers.specs.Bits.{bit}
 use Rattle.numbers.proofs.BelowLaws.{some_at, none_at}
 use Rattle.numbers.proofs.BitLaws.{bit_above}

@@ -1,10 +1,10 @@
 -- What it tells that nothing is left to take.
-use Rattle.std.proofs.Common.{◌≡◌, ℕ, ◌+◌, ◌<◌, ◌≤◌, Bool, true, false, cond, not, ◌&&◌, eqb, ltb, leb, ◌⊎◌, Some, None, Option, sym, refl, ap, ◌∙◌, ⊎_elim, arith}
-use Rattle.std.proofs.lemmas.Bool.{both_ways, cases_Bool, cases_eq, cases_lt, cases_order, and_parts, and_from, not-true, eqb-true, eq-eqb, ne_eqb, lt-ltb, le-leb, cond-true, cond-false}
+use Rattle.std.proofs.Common.{◌≡◌, ℕ, ◌+◌, ◌<◌, Bool, true, false, cond, not, ◌&&◌, eqb, ltb, Some, None, Option, sym, refl, ap, ◌∙◌, ⊎_elim, arith}
+use Rattle.std.proofs.lemmas.Bool.{both_ways, cases_Bool, cases_lt, cases_order, and_parts, and_from, eqb-true, eq-eqb, ne_eqb, lt-ltb, le-leb}
 use Rattle.numbers.specs.Below.{count_below, some_below, first_below}
 use Rattle.numbers.proofs.BelowLaws.{first_tells, some_found, some_none, count_lt_count, count_at}
 use Rattle.diagram.specs.Diagrams.{Diagram, Inner, Lawful}
-use Rattle.diagram.specs.Moves.{Move, merge, shortcut, same_goals, may_merge, outcome_of, outcomes, free, is_target, enables, has_room, may_shortcut, merges_with, shortcuts_into, first_merging, first_shortcutting, NothingLeft}
+use Rattle.diagram.specs.Moves.{Move, same_goals, may_merge, outcome_of, outcomes, free, is_target, enables, has_room, may_shortcut, merges_with, shortcuts_into, first_merging, first_shortcutting, NothingLeft}
 use Rattle.diagram.specs.Runs.{first}
 use Rattle.diagram.specs.Walks.{inner}
 use Rattle.diagram.proofs.Tests.{inner_from}

@@ -1,11 +1,11 @@
 -- A list of exactly the complete runs.
-use Rattle.std.proofs.Common.{◌≡◌, ℕ, zero, suc, ◌*◌, ◌<◌, ◌≤◌, Bool, true, false, ◌⊎◌, List, [], ◌∷◌, map, length, sym, refl, ap, ◌∙◌, subst, ⊎_elim, arith}
-use Rattle.std.proofs.lemmas.Bool.{both_ways, cases_Bool}
+use Rattle.std.proofs.Common.{◌≡◌, ℕ, zero, suc, ◌≤◌, true, false, List, [], ◌∷◌, map, length, sym, ap, subst, ⊎_elim, arith}
+use Rattle.std.proofs.lemmas.Bool.{cases_Bool}
 use Rattle.std.specs.List.{ContainsAt as Has}
 use Rattle.numbers.specs.Below.{each_below}
 use Rattle.diagram.specs.Decided.{CompleteRunsAreListed}
 use Rattle.diagram.specs.Diagrams.{Diagram, Lawful}
-use Rattle.diagram.specs.Runs.{Marking, first, AtEnd, Can, take_row, Run, stop, go, Complete}
+use Rattle.diagram.specs.Runs.{Marking, first, AtEnd, take_row, Run, stop, go}
 use Rattle.diagram.specs.Walks.{at_end, can_take, complete_from, longest}
 use Rattle.diagram.proofs.Bounds.{runs_are_bounded}
 use Rattle.diagram.proofs.Members.{has_none, has_here, has_cons, has_each, has_each_at, has_map, has_map_at}

@@ -1,9 +1,9 @@
 -- In a sound diagram the lowest place of a reached marking is enabled.
-use Rattle.std.proofs.Common.{◌≡◌, ℕ, zero, suc, ◌+◌, ◌<◌, ◌≤◌, Bool, true, false, ◌&&◌, ltb, ◌⊎◌, List, [], ◌∷◌, sym, refl, ap, ◌∙◌, subst, inl, inr, ⊎_elim, arith}
+use Rattle.std.proofs.Common.{◌≡◌, ℕ, zero, suc, ◌<◌, ◌≤◌, Bool, true, ◌&&◌, ltb, ◌⊎◌, List, sym, refl, ap, ◌∙◌, subst, inl, inr, ⊎_elim, arith}
 use Rattle.std.proofs.lemmas.Bool.{both_ways, cases_Bool, cases_eq, cases_lt, and_parts, lt-ltb, ltb-true}
 use Rattle.numbers.specs.Below.{some_below}
 use Rattle.numbers.proofs.BelowLaws.{some_at, none_at}
-use Rattle.diagram.specs.Diagrams.{Diagram, Inner, Lawful}
+use Rattle.diagram.specs.Diagrams.{Diagram, Lawful}
 use Rattle.diagram.specs.Runs.{Marking, first, Waits, AtEnd, Enabled, take_row, Run, stop, go, Leads, Sound}
 use Rattle.diagram.proofs.Bounds.{first_waits, run_waits}
 use Rattle.diagram.proofs.Pulling.{leaves}

@@ -1,5 +1,5 @@
 -- Labels belong to the sets that they are made for.
-use Rattle.std.proofs.Common.{◌≡◌, true, ap, ◌∙◌, ⊎_elim}
+use Rattle.std.proofs.Common.{ap, ◌∙◌, ⊎_elim}
 use Rattle.std.proofs.lemmas.Bool.{cases_Bool}
 use Rattle.analysis.specs.Algebra.{Algebra, Laws}
 use Rattle.diagram.specs.Meaning.{MadeLabelsBelong}

@@ -1,15 +1,14 @@
 -- Merging two rows keeps the meaning: in runs the one stands for the other.
-use Rattle.std.proofs.Common.{◌≡◌, ℕ, ◌<◌, Bool, true, false, cond, not, ◌&&◌, eqb, ◌⊎◌, List, [], ◌∷◌, map, sym, refl, ap, ◌∙◌, subst, ⊎_elim}
+use Rattle.std.proofs.Common.{◌≡◌, ℕ, true, cond, not, ◌&&◌, eqb, List, [], ◌∷◌, map, sym, refl, ap, ◌∙◌, subst, ⊎_elim}
 use mathlib.Core.Path.{fun_ext}
 use Rattle.std.proofs.lemmas.Bool.{cases_Bool, cases_eq, and_parts, and_from, not-true, not-false, eqb-true, eqb-false, eq-eqb, ne_eqb, cond-true, cond-false}
-use Rattle.numbers.specs.Below.{some_below}
 use Rattle.numbers.proofs.BelowLaws.{none_at}
 use Rattle.analysis.specs.Algebra.{Algebra, Laws}
-use Rattle.diagram.specs.Diagrams.{Diagram, Inner, Lawful}
-use Rattle.diagram.specs.Meaning.{LabelsBelong, MeansTheSame, Kept, MergingKeepsTheMeaning}
+use Rattle.diagram.specs.Diagrams.{Diagram, Lawful}
+use Rattle.diagram.specs.Meaning.{LabelsBelong, MergingKeepsTheMeaning}
 use Rattle.diagram.specs.Moves.{same_goals, may_merge, after_merge, label_after_merge}
 use Rattle.diagram.specs.RunLabels.{run_label, joined_from, ListsComplete}
-use Rattle.diagram.specs.Runs.{Marking, first, AtEnd, Enabled, Can, take_row, Run, stop, go, Complete, Sound}
+use Rattle.diagram.specs.Runs.{Marking, Enabled, take_row, Run, stop, go, Complete, Sound}
 use Rattle.diagram.proofs.Joins.{Below, below_self, below_trans, below_both, either_left, either_right, either_least, least, held_below}
 use Rattle.diagram.proofs.LabelOrder.{then_below_left, then_below_right, label_first}
 use Rattle.diagram.proofs.Members.{has_here, has_there}

@@ -1,9 +1,9 @@
 -- The test for one row left tells what it asks.
-use Rattle.std.proofs.Common.{◌≡◌, ℕ, ◌+◌, ◌<◌, ◌≤◌, Bool, true, false, not, ◌&&◌, eqb, ◌⊎◌, sym, refl, ap, ◌∙◌, ⊎_elim, arith}
+use Rattle.std.proofs.Common.{◌≡◌, ℕ, ◌+◌, Bool, true, not, ◌&&◌, eqb, ap, ◌∙◌, ⊎_elim, arith}
 use Rattle.std.proofs.lemmas.Bool.{cases_Bool, and_parts, and_from, not-true, not-false, eqb-true, eq-eqb}
 use Rattle.numbers.specs.Below.{some_below}
 use Rattle.numbers.proofs.BelowLaws.{some_at, some_found, some_none, none_at}
-use Rattle.diagram.specs.Diagrams.{Diagram, Inner, Lawful}
+use Rattle.diagram.specs.Diagrams.{Diagram, Lawful}
 use Rattle.diagram.specs.Reducing.{OneRowLeft, is_only_row, is_one_row}
 use Rattle.diagram.specs.Runs.{first}
 use Rattle.diagram.specs.Walks.{inner}

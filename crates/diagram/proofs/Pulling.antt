@@ -1,9 +1,9 @@
 -- A step that is enabled can be fired first: pulling its row to the front of a run.
-use Rattle.std.proofs.Common.{◌≡◌, ℕ, suc, ◌+◌, ◌<◌, Bool, true, false, cond, ◌⊎◌, List, [], ◌∷◌, length, sym, refl, ap, ◌∙◌, subst, inl, inr, ⊎_elim, arith}
+use Rattle.std.proofs.Common.{◌≡◌, ℕ, suc, true, false, ◌⊎◌, List, [], ◌∷◌, length, sym, refl, ap, ◌∙◌, subst, inl, inr, ⊎_elim}
 use mathlib.Core.Path.{fun_ext}
-use Rattle.std.proofs.lemmas.Bool.{both_ways, cases_Bool, cases_eq, cond-true, cond-false}
+use Rattle.std.proofs.lemmas.Bool.{both_ways, cases_Bool, cases_eq}
 use Rattle.analysis.specs.Algebra.{Algebra, Laws}
-use Rattle.diagram.specs.Diagrams.{Diagram, Inner, Lawful}
+use Rattle.diagram.specs.Diagrams.{Diagram, Inner}
 use Rattle.diagram.specs.Meaning.{LabelsBelong}
 use Rattle.diagram.specs.RunLabels.{run_label}
 use Rattle.diagram.specs.Runs.{Marking, Enabled, Can, take_row, Run, stop, go}

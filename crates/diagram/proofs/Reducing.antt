@@ -1,17 +1,17 @@
 -- Repeating the least move decides soundness and tells the join.
-use Rattle.std.proofs.Common.{◌≡◌, ℕ, zero, suc, ◌+◌, ◌-◌, ◌*◌, ◌<◌, ◌≤◌, Bool, true, false, cond, ◌&&◌, eqb, ltb, ◌⊎◌, List, [], ◌∷◌, Some, None, Option, sym, refl, ap, ◌∙◌, subst, inl, inr, ⊎_elim, arith}
+use Rattle.std.proofs.Common.{◌≡◌, ℕ, zero, suc, ◌+◌, ◌≤◌, true, eqb, ltb, ◌⊎◌, List, [], ◌∷◌, Some, None, Option, sym, refl, ap, ◌∙◌, subst, inl, inr, ⊎_elim, arith}
 use Rattle.std.specs.List.{ContainsAt as Has}
 use Rattle.std.proofs.lemmas.Bool.{cases_Bool, and_parts, ltb-true, cond-true, cond-false}
 use Rattle.numbers.specs.Below.{some_below, first_below}
 use Rattle.numbers.proofs.BelowLaws.{first_tells, some_at}
 use Rattle.diagram.proofs.Leftover.{first_found}
 use Rattle.analysis.specs.Algebra.{Algebra, Laws}
-use Rattle.diagram.specs.Diagrams.{Diagram, Inner, Lawful}
-use Rattle.diagram.specs.Meaning.{LabelsBelong, MeansTheSame, Kept}
+use Rattle.diagram.specs.Diagrams.{Diagram, Lawful}
+use Rattle.diagram.specs.Meaning.{LabelsBelong, Kept}
 use Rattle.diagram.specs.Moves.{Move, merge, shortcut, after, label_after, may_merge, may_shortcut, may_move, may_reduce, outcomes, merges_with, shortcuts_into, first_merging, first_shortcutting, least_move, NothingLeft}
-use Rattle.diagram.specs.Reducing.{most_moves, OneRowLeft, moved_by, reduced, ReducedRightly, ReductionDecides}
-use Rattle.diagram.specs.RunLabels.{run_label, joined_from, ListsComplete, Join}
-use Rattle.diagram.specs.Runs.{Marking, first, AtEnd, Enabled, Can, take_row, Run, stop, go, Complete, Sound}
+use Rattle.diagram.specs.Reducing.{most_moves, OneRowLeft, moved_by, reduced, ReductionDecides}
+use Rattle.diagram.specs.RunLabels.{ListsComplete}
+use Rattle.diagram.specs.Runs.{Marking, first, AtEnd, Enabled, take_row, Run, stop, go, Complete}
 use Rattle.diagram.proofs.Members.{has_none, has_here, has_cons}
 use Rattle.diagram.proofs.Moving.{means_itself, means_through, moved_once}
 use Rattle.diagram.proofs.OneRow.{one_tells, one_from}

@@ -1,5 +1,5 @@
 -- A shortcut that may be taken keeps the meaning.
-use Rattle.std.proofs.Common.{◌≡◌, ℕ, true, false, ◌&&◌, eqb, ◌⊎◌, List, [], ◌∷◌, ◌++◌, length, sym, refl, ap, ◌∙◌, subst, ⊎_elim, arith}
+use Rattle.std.proofs.Common.{◌≡◌, ℕ, true, false, ◌&&◌, eqb, List, [], ◌∷◌, ◌++◌, length, sym, refl, ap, ◌∙◌, subst, ⊎_elim, arith}
 use Rattle.std.proofs.lemmas.Bool.{cases_Bool, cases_eq, and_parts, eqb-true, cond-true, cond-false}
 use Rattle.numbers.specs.Below.{some_below}
 use Rattle.numbers.proofs.BelowLaws.{some_at}
@@ -8,7 +8,7 @@ use Rattle.diagram.specs.Diagrams.{Diagram, Inner, Lawful}
 use Rattle.diagram.specs.Meaning.{LabelsBelong, MeansTheSame, Kept, ShortcuttingKeepsTheMeaning}
 use Rattle.diagram.specs.Moves.{leads_to, struck, after_shortcut, label_after_shortcut}
 use Rattle.diagram.specs.RunLabels.{run_label, joined_from, ListsComplete}
-use Rattle.diagram.specs.Runs.{Marking, first, AtEnd, Enabled, Can, take_row, Run, stop, go, Leads, Complete, Sound}
+use Rattle.diagram.specs.Runs.{Marking, first, AtEnd, Enabled, take_row, Run, stop, go, Leads, Complete}
 use Rattle.diagram.proofs.FollowUps.{Takeable, takeable, D'}
 use Rattle.diagram.proofs.Joins.{Below, below_both, least, held_below}
 use Rattle.diagram.proofs.Members.{has_here, has_there}

@@ -1,13 +1,10 @@
 -- What stands with the follow-ups in place, and with the target struck, is lawful, and its labels belong.
-use Rattle.std.proofs.Common.{◌≡◌, ℕ, ◌<◌, ◌≤◌, Bool, true, false, cond, not, ◌&&◌, ◌||◌, eqb, ltb, ◌⊎◌, sym, refl, ap, ◌∙◌, subst, ⊎_elim, arith}
-use mathlib.Core.Path.{fun_ext}
-use Rattle.std.proofs.lemmas.Bool.{both_ways, cases_Bool, cases_eq, and_parts, and_from, or_left, or_right, or_cases, not-true, eqb-true, eqb-false, eq-eqb, ne_eqb, ltb-true, cond-true, cond-false}
-use Rattle.numbers.specs.Below.{some_below}
-use Rattle.numbers.proofs.BelowLaws.{none_at, some_found}
+use Rattle.std.proofs.Common.{◌≡◌, ℕ, ◌<◌, Bool, true, false, ◌&&◌, eqb, ltb, sym, ap, ◌∙◌, subst, ⊎_elim, arith}
+use Rattle.std.proofs.lemmas.Bool.{cases_Bool, cases_eq, and_parts, or_left, or_cases, eqb-true, ltb-true, cond-true, cond-false}
 use Rattle.analysis.specs.Algebra.{Algebra, Laws}
 use Rattle.diagram.specs.Diagrams.{Diagram, Inner, Lawful}
 use Rattle.diagram.specs.Meaning.{LabelsBelong}
-use Rattle.diagram.specs.Moves.{outcomes, free, turn, followed, leads_to, struck, label_after_shortcut}
+use Rattle.diagram.specs.Moves.{outcomes, free, turn, followed, label_after_shortcut}
 use Rattle.diagram.proofs.FollowUps.{Takeable, D', takes, takes_r, takes_not, follows, was_used, step_new, step_old, to_new, to_old}
 
 module _ (rank : ℕ → ℕ) (D : Diagram) (lawful : Lawful rank D) (r m : ℕ) (may : Takeable D r m) where

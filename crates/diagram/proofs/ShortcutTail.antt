@@ -1,12 +1,12 @@
 -- Any run, told with follow-ups and a tail.
-use Rattle.std.proofs.Common.{◌≡◌, ℕ, zero, suc, ◌+◌, ◌<◌, ◌≤◌, Bool, true, false, ◌⊎◌, List, [], ◌∷◌, ◌++◌, length, sym, refl, ap, ◌∙◌, subst, ⊎_elim, arith, length-append}
+use Rattle.std.proofs.Common.{◌≡◌, ℕ, zero, suc, ◌≤◌, List, [], ◌∷◌, length, sym, ap, ◌∙◌, subst, ⊎_elim, arith, length-append}
 use Rattle.std.proofs.lemmas.Bool.{cases_eq}
 use Rattle.analysis.specs.Algebra.{Algebra, Laws}
-use Rattle.diagram.specs.Diagrams.{Diagram, Inner, Lawful}
+use Rattle.diagram.specs.Diagrams.{Diagram, Lawful}
 use Rattle.diagram.specs.Meaning.{LabelsBelong}
-use Rattle.diagram.specs.Runs.{Marking, Enabled, Can, take_row, Run, stop, go, Leads}
+use Rattle.diagram.specs.Runs.{Marking, Enabled, Can, Run, stop, go, Leads}
 use Rattle.diagram.proofs.FollowUps.{Takeable}
-use Rattle.diagram.proofs.Pulling.{Waiting, Fires, now, later, fires_or_not, apart, waiting_on, leaves, first_can, after_first, pull}
+use Rattle.diagram.proofs.Pulling.{Waiting, fires_or_not, apart, waiting_on, leaves, first_can, after_first, pull}
 use Rattle.diagram.proofs.Shortcutting.{run_append, fires_last, after, waiting, old_first, new_first}
 
 module _ (rank : ℕ → ℕ) (D : Diagram) (lawful : Lawful rank D) (r m : ℕ) (may : Takeable D r m) {V : Type 0} (a : Algebra V) (laws : Laws a) (label : ℕ → V) (belong : LabelsBelong a D label) where

@@ -1,15 +1,15 @@
 -- Runs before a shortcut and with its follow-ups: each can be told as the other.
-use Rattle.std.proofs.Common.{◌≡◌, ℕ, zero, suc, ◌+◌, ◌<◌, ◌≤◌, Bool, true, false, cond, ◌||◌, ◌⊎◌, List, [], ◌∷◌, ◌++◌, length, sym, refl, ap, ◌∙◌, subst, ⊎_elim, arith, length-append}
-use Rattle.std.proofs.lemmas.Bool.{both_ways, cases_Bool, cases_eq, or_left, or_right, cond-true, cond-false}
+use Rattle.std.proofs.Common.{◌≡◌, ℕ, zero, suc, ◌≤◌, Bool, true, false, List, [], ◌∷◌, ◌++◌, length, sym, refl, ap, ◌∙◌, subst, ⊎_elim, arith}
+use Rattle.std.proofs.lemmas.Bool.{cases_Bool, cases_eq, or_left, or_right, cond-true, cond-false}
 use Rattle.analysis.specs.Algebra.{Algebra, Laws}
-use Rattle.diagram.specs.Diagrams.{Diagram, Inner, Lawful}
+use Rattle.diagram.specs.Diagrams.{Diagram, Lawful}
 use Rattle.diagram.specs.Meaning.{LabelsBelong}
 use Rattle.diagram.specs.Moves.{followed, label_after_shortcut}
 use Rattle.diagram.specs.RunLabels.{run_label}
-use Rattle.diagram.specs.Runs.{Marking, AtEnd, Enabled, Can, take_row, Run, stop, go, Leads}
+use Rattle.diagram.specs.Runs.{Marking, AtEnd, Enabled, Can, take_row, Run, stop, go}
 use Rattle.diagram.proofs.FollowUps.{Takeable, D', takes, follows, place, takes_not, was_used, step_new, step_old, taking_new, taking_old}
 use Rattle.diagram.proofs.LabelOrder.{label_first}
-use Rattle.diagram.proofs.Pulling.{Waiting, Fires, now, later, fires_or_not, apart, waiting_on, leaves, first_can, after_first, pull}
+use Rattle.diagram.proofs.Pulling.{Waiting, Fires, now, later, leaves, first_can, after_first, pull}
 use Rattle.diagram.proofs.Taking.{moved}
 
 pub run_append : (D : Diagram) {M X Y : Marking} {rs ss : List ℕ} → Run D M rs X → Run D X ss Y → Run D M (rs ++ ss) Y

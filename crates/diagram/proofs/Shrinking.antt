@@ -1,5 +1,5 @@
 -- Each move of a reduction spends something, so there are no more of them than there is to spend.
-use Rattle.std.proofs.Common.{◌≡◌, ℕ, suc, ◌+◌, ◌<◌, ◌≤◌, Bool, true, false, cond, not, ◌&&◌, eqb, ◌⊎◌, List, [], ◌∷◌, length, sym, refl, ap, ◌∙◌, subst, ⊎_elim, arith}
+use Rattle.std.proofs.Common.{◌≡◌, ℕ, suc, ◌+◌, ◌<◌, ◌≤◌, true, false, cond, not, ◌&&◌, eqb, List, length, sym, refl, ap, ◌∙◌, subst, ⊎_elim, arith}
 use Rattle.std.proofs.lemmas.Bool.{cases_Bool, cases_eq, and_parts, and_right, or_left, eqb-true, eq-eqb, ne_eqb, cond-true, cond-false}
 use Rattle.numbers.specs.Below.{count_below}
 use Rattle.analysis.specs.Algebra.{Algebra}

@@ -1,11 +1,11 @@
 -- Soundness is decided by walking.
-use Rattle.std.proofs.Common.{◌≡◌, ℕ, zero, suc, ◌+◌, ◌<◌, ◌≤◌, Bool, true, false, not, ◌&&◌, ◌⊎◌, List, [], ◌∷◌, length, sym, refl, ap, ◌∙◌, subst, ⊎_elim, arith}
-use Rattle.std.proofs.lemmas.Bool.{false≢true, both_ways, cases_Bool, and_parts, and_from, not-true, not-false}
+use Rattle.std.proofs.Common.{◌≡◌, ℕ, zero, suc, ◌+◌, ◌≤◌, Bool, true, false, not, ◌&&◌, List, [], ◌∷◌, length, sym, ap, ◌∙◌, ⊎_elim, arith}
+use Rattle.std.proofs.lemmas.Bool.{both_ways, cases_Bool, and_parts, and_from, not-true, not-false}
 use Rattle.numbers.specs.Below.{some_below}
 use Rattle.numbers.proofs.BelowLaws.{some_found, some_none, some_at, none_at}
 use Rattle.diagram.specs.Decided.{SoundnessIsDecided}
-use Rattle.diagram.specs.Diagrams.{Diagram, Inner, Lawful}
-use Rattle.diagram.specs.Runs.{Marking, first, Waits, AtEnd, Enabled, Can, take_row, Run, stop, go, Leads, Sound}
+use Rattle.diagram.specs.Diagrams.{Diagram, Lawful}
+use Rattle.diagram.specs.Runs.{Marking, first, Waits, take_row, Run, stop, go, Leads, Sound}
 use Rattle.diagram.specs.Walks.{at_end, inner, enabled, can_take, reaches, longest, is_sound}
 use Rattle.diagram.proofs.Bounds.{first_waits, run_waits, run_rises, height_bounded}
 use Rattle.diagram.proofs.Tests.{second_fails, at_end_tells, at_end_from, inner_tells, inner_from, enabled_tells, enabled_from, can_tells, can_from}

@@ -1,13 +1,13 @@
 -- What a diagram can still spend on moves: for each row in use itself, and the steps ahead of it.
-use Rattle.std.proofs.Common.{◌≡◌, ℕ, suc, ◌+◌, ◌-◌, ◌*◌, ◌<◌, ◌≤◌, Bool, true, false, cond, not, ◌&&◌, eqb, leb, ◌⊎◌, sym, refl, ap, ◌∙◌, subst, ⊎_elim, arith}
-use Rattle.std.proofs.lemmas.Bool.{both_ways, cases_Bool, and_parts, and_from, not-true, not-false, eq-eqb, ne_eqb, leb-true, le-leb}
+use Rattle.std.proofs.Common.{◌≡◌, ℕ, suc, ◌+◌, ◌-◌, ◌<◌, ◌≤◌, Bool, true, false, cond, not, ◌&&◌, eqb, leb, refl, ap, ◌∙◌, ⊎_elim, arith}
+use Rattle.std.proofs.lemmas.Bool.{cases_Bool, and_parts, and_from, not-true, not-false, eq-eqb, leb-true, le-leb}
 use Rattle.numbers.specs.Below.{sum_below, count_below, some_below}
 use Rattle.numbers.proofs.BelowLaws.{none_at, some_none}
 use Rattle.diagram.specs.Diagrams.{Diagram, Inner, Lawful}
 use Rattle.diagram.specs.Reducing.{steps, most_moves}
 use Rattle.diagram.specs.Runs.{first}
 use Rattle.diagram.specs.Walks.{inner}
-use Rattle.diagram.proofs.Counting.{count_le, count_lt, weighed_le}
+use Rattle.diagram.proofs.Counting.{count_lt, weighed_le}
 use Rattle.diagram.proofs.Tests.{second_fails, inner_tells, inner_from}
 
 -- step k is ahead of row t: its parties are of t's step, and t sends none of them to a greater rank

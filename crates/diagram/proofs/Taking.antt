@@ -1,9 +1,9 @@
 -- Taking one row.
-use Rattle.std.proofs.Common.{◌≡◌, ℕ, ◌<◌, ◌≤◌, Bool, true, false, cond, sym, refl, ap, ◌∙◌, subst, ⊎_elim, arith}
+use Rattle.std.proofs.Common.{◌≡◌, ℕ, ◌<◌, ◌≤◌, true, false, sym, ap, subst, ⊎_elim, arith}
 use Rattle.std.proofs.lemmas.Bool.{cases_Bool, cond-true, cond-false}
 use Rattle.numbers.specs.Below.{sum_below}
-use Rattle.diagram.specs.Diagrams.{Diagram, Inner, Lawful}
-use Rattle.diagram.specs.Runs.{Marking, Waits, AtEnd, Enabled, Can, take_row}
+use Rattle.diagram.specs.Diagrams.{Diagram, Lawful}
+use Rattle.diagram.specs.Runs.{Marking, Can, take_row}
 use Rattle.diagram.specs.Progress.{TakingKeepsMarkingsLawful}
 use Rattle.diagram.proofs.Sums.{sum_lt}
 

@@ -1,6 +1,6 @@
 -- The tests of a walk tell what they ask.
-use Rattle.std.proofs.Common.{◌≡◌, ℕ, ◌<◌, Bool, true, false, not, ◌&&◌, eqb, ◌⊎◌, sym, refl, ap, ◌∙◌, ⊎_elim}
-use Rattle.std.proofs.lemmas.Bool.{both_ways, cases_Bool, and_parts, and_from, not-true, not-false, eqb-true, eqb-false, eq-eqb, ne_eqb}
+use Rattle.std.proofs.Common.{◌≡◌, ℕ, Bool, true, false, not, ◌&&◌, eqb, sym, ap, ◌∙◌, ⊎_elim}
+use Rattle.std.proofs.lemmas.Bool.{cases_Bool, and_parts, and_from, not-true, not-false, eqb-true, eqb-false, eq-eqb, ne_eqb}
 use Rattle.numbers.specs.Below.{some_below}
 use Rattle.numbers.proofs.BelowLaws.{some_none, none_at}
 use Rattle.diagram.specs.Diagrams.{Diagram, Inner, Lawful}

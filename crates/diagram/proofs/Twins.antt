@@ -1,14 +1,14 @@
 -- Where nothing is left to take, a step with two outcomes has all parties.
-use Rattle.std.proofs.Common.{◌≡◌, ℕ, zero, suc, ◌+◌, ◌*◌, ◌<◌, ◌≤◌, Bool, true, false, cond, not, ◌&&◌, ◌||◌, eqb, ◌⊎◌, List, [], ◌∷◌, sym, refl, ap, ◌∙◌, subst, inl, inr, ⊎_elim, arith}
-use Rattle.std.proofs.lemmas.Bool.{both_ways, cases_Bool, cases_eq, cases_lt, and_parts, and_from, or_left, or_right, or_cases, not-true, not-false, eqb-false, ne_eqb}
+use Rattle.std.proofs.Common.{◌≡◌, ℕ, zero, suc, ◌+◌, ◌*◌, ◌<◌, ◌≤◌, Bool, true, false, not, ◌&&◌, ◌||◌, eqb, ◌⊎◌, [], ◌∷◌, sym, refl, ap, ◌∙◌, subst, inl, inr, ⊎_elim, arith}
+use Rattle.std.proofs.lemmas.Bool.{both_ways, cases_Bool, cases_eq, cases_lt, and_parts, or_left, or_right, or_cases, not-true, not-false, eqb-false, ne_eqb}
 use Rattle.numbers.specs.Below.{some_below}
 use Rattle.numbers.proofs.BelowLaws.{some_at, none_at}
 use Rattle.diagram.specs.Diagrams.{Diagram, Inner, Lawful}
 use Rattle.diagram.specs.Progress.{greatest_rank}
-use Rattle.diagram.specs.Runs.{Marking, first, AtEnd, Enabled, Can, take_row, Run, stop, go, Leads, Sound}
+use Rattle.diagram.specs.Runs.{Marking, first, Enabled, Can, take_row, stop, go, Leads, Sound}
 use Rattle.diagram.specs.Walks.{enabled}
 use Rattle.diagram.proofs.Bounds.{height_bounded}
-use Rattle.diagram.proofs.Lowest.{Min, min, ranks_rise, start_lowest, waits, below_end, lowest, end_lowest}
+use Rattle.diagram.proofs.Lowest.{min, start_lowest, waits, below_end, lowest, end_lowest}
 use Rattle.diagram.proofs.Pulling.{apart, waiting_on}
 use Rattle.diagram.proofs.ShortcutKept.{joined}
 use Rattle.diagram.proofs.Sums.{greatest_at}

@@ -1,5 +1,5 @@
 -- Where nothing is left to take, one row is all that stands exactly when the diagram is sound.
-use Rattle.std.proofs.Common.{◌≡◌, ℕ, zero, suc, ◌+◌, ◌<◌, ◌≤◌, Bool, true, false, ◌⊎◌, List, [], ◌∷◌, sym, refl, ap, ◌∙◌, subst, inl, inr, ⊎_elim, arith}
+use Rattle.std.proofs.Common.{◌≡◌, ℕ, zero, suc, ◌+◌, ◌<◌, ◌≤◌, true, ◌⊎◌, List, [], ◌∷◌, sym, refl, ap, ◌∙◌, subst, inl, inr, ⊎_elim, arith}
 use Rattle.std.proofs.lemmas.Bool.{cases_eq}
 use Rattle.diagram.specs.Diagrams.{Diagram, Inner, Lawful}
 use Rattle.diagram.specs.Moves.{NothingLeft}
@@ -7,7 +7,7 @@ use Rattle.diagram.specs.Progress.{greatest_rank}
 use Rattle.diagram.specs.Reducing.{OneRowLeft, TheVerdictIsRight}
 use Rattle.diagram.specs.Runs.{Marking, first, AtEnd, Enabled, Can, take_row, Run, stop, go, Leads, Sound}
 use Rattle.diagram.proofs.Leftover.{no_merge, no_shortcut}
-use Rattle.diagram.proofs.Lowest.{Min, min, start_lowest, lowest, end_lowest}
+use Rattle.diagram.proofs.Lowest.{min, start_lowest, lowest, end_lowest}
 use Rattle.diagram.proofs.ShortcutKept.{joined}
 use Rattle.diagram.proofs.Taking.{moved}
 use Rattle.diagram.proofs.Tests.{end_is_still}

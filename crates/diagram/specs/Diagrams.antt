@@ -1,5 +1,5 @@
 -- Deterministic negotiation diagrams.
-use Rattle.std.specs.Prelude.{◌≡◌, ℕ, ◌<◌, ◌≤◌, Bool, true, false, ◌≢◌}
+use Rattle.std.specs.Prelude.{◌≡◌, ℕ, ◌<◌, ◌≤◌, Bool, true, ◌≢◌}
 
 -- A diagram: who takes part in which step, and where each row sends each party of its step. A row is one outcome.
 pub record Diagram : Type 0 where

@@ -1,5 +1,5 @@
 -- A diagram given by its steps' masks and its table of rows.
-use Rattle.std.specs.Prelude.{ℕ, ◌-◌, Bool, not, List, length, is_some, Some, None, Option, ◌==◌, slice_index, slice_index_or}
+use Rattle.std.specs.Prelude.{ℕ, ◌-◌, not, List, length, is_some, Some, None, Option, ◌==◌, slice_index, slice_index_or}
 use Rattle.numbers.specs.Below.{count_below}
 use Rattle.numbers.specs.Bits.{bit}
 use Rattle.diagram.specs.Diagrams.{Diagram}

@@ -1,5 +1,5 @@
 -- When a diagram given by masks and rows is lawful, computed.
-use Rattle.std.specs.Prelude.{◌≡◌, ℕ, ◌+◌, ◌<◌, Bool, true, false, cond, not, ◌&&◌, List, Option, nat_lt}
+use Rattle.std.specs.Prelude.{◌≡◌, ℕ, ◌+◌, ◌<◌, Bool, true, cond, not, ◌&&◌, List, Option, nat_lt, slice_index}
 use Rattle.numbers.specs.Below.{some_below}
 use Rattle.diagram.specs.Diagrams.{Diagram, Lawful}
 use Rattle.diagram.specs.Drawn.{drawn}
@@ -41,4 +41,4 @@ is_lawful rank D = ends_right D && (all_below (D.end + 1) (step_right D) && all_
 abbrev pub LawfulnessIsTold : Type 0
 LawfulnessIsTold =
     (rank : ℕ → ℕ) (masks : List ℕ) (rows : List (Option Row))
-    → ((n : ℕ) → lib.ListN.get_or masks n 0 < 256) → is_lawful rank (drawn masks rows) ≡ true → Lawful rank (drawn masks rows)
+    → ((n : ℕ) → slice_index masks n < 256) → is_lawful rank (drawn masks rows) ≡ true → Lawful rank (drawn masks rows)

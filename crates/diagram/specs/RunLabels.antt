@@ -1,5 +1,5 @@
 -- Labels of runs, and their join.
-use Rattle.std.specs.Prelude.{◌≡◌, ℕ, List, [], ◌∷◌, fold}
+use Rattle.std.specs.Prelude.{◌≡◌, ℕ, List, ◌∷◌, fold}
 use Rattle.std.specs.List.{ContainsAt as Has}
 use Rattle.analysis.specs.Algebra.{Algebra}
 use Rattle.diagram.specs.Diagrams.{Diagram}

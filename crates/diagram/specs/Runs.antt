@@ -1,5 +1,5 @@
 -- Markings, runs and soundness.
-use Rattle.std.specs.Prelude.{◌≡◌, ℕ, ◌<◌, Bool, true, cond, List, [], ◌∷◌}
+use Rattle.std.specs.Prelude.{◌≡◌, ℕ, ◌<◌, true, cond, List, [], ◌∷◌}
 use Rattle.diagram.specs.Diagrams.{Diagram, Inner}
 
 -- the step at which each party waits

@@ -1,6 +1,5 @@
 -- Three diagrams worked by hand, and rules that are wrong told apart from those that are right.
 use Rattle.std.specs.Prelude.{◌≡◌, ℕ, zero, suc, Bool, true, false, not, ◌&&◌, List, [], ◌∷◌, length, Some, None, Option, ◌==◌, slice_index_or}
-use Rattle.analysis.specs.Algebra.{Algebra}
 use Rattle.analysis.specs.CostAlgebra.{capped, cost_algebra}
 use Rattle.analysis.specs.DefinitionsAlgebra.{sited, definitions_algebra}
 use Rattle.analysis.specs.declared.cost.Cost.{Cost}

@@ -1,10 +1,9 @@
 -- One changed byte breaks a right check.
-use Rattle.std.proofs.Common.{◌≡◌, ℕ, zero, suc, ◌+◌, ◌*◌, ◌<◌, ◌≤◌, true, false, not, eqb, ◌≢◌, ◌⊎◌, length, set, sym, refl, ap, ◌∙◌, inl, inr, ⊎_elim, arith, get_or-set_other, get_or-set_same}
+use Rattle.std.proofs.Common.{◌≡◌, ℕ, zero, suc, ◌+◌, ◌*◌, ◌<◌, ◌≤◌, not, ◌≢◌, ◌⊎◌, length, set, sym, refl, ap, ◌∙◌, inl, inr, ⊎_elim, arith, get_or-set_other, get_or-set_same}
 use native.Mathlib.Nat.{eq_of_mul-eq-mul_left}
 use Rattle.std.proofs.lemmas.Bool.{cases_eq, cases_lt, cases_order, eqb-true, ne_eqb, not-false}
 use Rattle.numbers.specs.Below.{sum_below}
 use Rattle.format.specs.Layout.{Bytes, byte, number32, check_sum}
-use Rattle.format.specs.Checks.{wrong_check}
 use Rattle.format.specs.Changed.{OneChangedByteBreaksTheCheck}
 
 module _ (block : Bytes) (i value : ℕ) (inside : i < length block) where

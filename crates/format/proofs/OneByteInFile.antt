@@ -1,5 +1,5 @@
 -- One changed byte in a file is refused by its block's check.
-use Rattle.std.proofs.Common.{◌≡◌, ℕ, ◌+◌, ◌-◌, ◌*◌, ◌/◌, ◌%◌, ◌<◌, ◌≤◌, true, false, not, ◌||◌, eqb, ltb, List, [], ◌∷◌, ◌++◌, length, take, drop, set, Some, None, sym, ap, ◌∙◌, arith, length-set}
+use Rattle.std.proofs.Common.{◌≡◌, ℕ, ◌+◌, ◌-◌, ◌*◌, ◌/◌, ◌%◌, ◌<◌, ◌≤◌, true, false, not, ◌||◌, eqb, ltb, List, [], ◌∷◌, ◌++◌, length, take, drop, set, Some, None, ap, ◌∙◌, arith, length-set}
 use lib.Seq.{drop-set-add, take-set-le, take-set-lt}
 use Rattle.std.proofs.lemmas.Bool.{cond-true, cond-false, eqb-true, not-false, or_parts}
 use Rattle.format.specs.Layout.{Bytes, byte, block_count, block_of, record_count}

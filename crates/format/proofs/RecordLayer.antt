@@ -1,5 +1,5 @@
 -- The record layer: a record's parts, and its checks one after the other.
-use Rattle.std.proofs.Common.{◌≡◌, ℕ, zero, suc, ◌+◌, ◌<◌, ◌≤◌, Bool, true, false, cond, not, ◌&&◌, ◌||◌, eqb, ltb, List, [], ◌∷◌, ◌++◌, get_or, take, drop, Some, None, sym, refl, ap, ◌∙◌, add-one, arith}
+use Rattle.std.proofs.Common.{◌≡◌, ℕ, zero, suc, ◌+◌, ◌≤◌, Bool, true, false, cond, ◌&&◌, ltb, List, [], ◌∷◌, ◌++◌, take, drop, None, sym, ap, ◌∙◌, add-one, arith}
 use Rattle.std.proofs.lemmas.List.{get_or-drop, get_or-take, drop-drop, drop-take}
 use Rattle.std.proofs.lemmas.Bool.{cond-false, cond_both, and_left, ltb-false, or_parts}
 use Rattle.numbers.specs.Below.{sum_below, count_below, some_below}
@@ -9,7 +9,7 @@ use Rattle.format.specs.Checks.{wrong_kind, no_name, wrong_name_byte, wrong_name
 use Rattle.format.specs.declared.records.Ahead.{Ahead}
 use Rattle.numbers.proofs.BelowLaws.{sum_more}
 use Rattle.format.proofs.First.{past, none_first, none_parts}
-use Rattle.format.proofs.Tests.{or_skip, and_skip}
+use Rattle.format.proofs.Tests.{and_skip}
 
 -- a record's name field, cut behind the kind, the step and forty bytes
 module _ (rec name : Bytes) (cut : name ≡ drop 40 (drop 2 rec)) where

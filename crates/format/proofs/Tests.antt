@@ -1,5 +1,5 @@
 -- Small laws of tests.
-use Rattle.std.proofs.Common.{◌≡◌, Bool, true, false, ◌&&◌, ◌||◌, refl, ap}
+use Rattle.std.proofs.Common.{◌≡◌, Bool, true, false, ◌&&◌, ◌||◌, ap}
 
 -- a test that fails leaves the other to tell
 pub or_skip : (a b : Bool) → a ≡ false → (a || b) ≡ b

@@ -1,5 +1,5 @@
 -- Whether a part of the file is all zeros.
-use Rattle.std.proofs.Common.{◌≡◌, ℕ, ◌<◌, true, false, not, eqb, length, get_or, refl, ap, ◌∙◌}
+use Rattle.std.proofs.Common.{◌≡◌, ℕ, ◌<◌, true, false, not, eqb, length, get_or, ap}
 use Rattle.std.proofs.lemmas.Bool.{eq-eqb, ne_eqb, eqb-true, not-false}
 use Rattle.format.specs.Layout.{Bytes}
 use Rattle.format.specs.Checks.{some_nonzero}

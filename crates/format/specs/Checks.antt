@@ -2,7 +2,7 @@
 use Rattle.std.specs.Prelude.{ℕ, ◌+◌, ◌%◌, Bool, cond, not, ◌&&◌, ◌||◌, List, [], ◌∷◌, ◌++◌, length, ◌==◌, nat_le, nat_lt}
 use Rattle.numbers.specs.Below.{count_below, some_below, first_below, each_below}
 use Rattle.format.specs.Layout.{Bytes, byte, number16, number32, block_count, block_of, check_sum, record_count, record_of, is_blank, is_step, is_outcome, kind_of, step_of, mask_of, unused_of, name_length, name_field, steps_ahead, outcomes_ahead, floor_at}
-use Rattle.format.specs.Refusals.{Check, block_check, record_check, call_check}
+use Rattle.format.specs.Refusals.{Check, block_check, record_check}
 use Rattle.format.specs.declared.records.Ahead.{Ahead}
 use Rattle.format.specs.declared.records.Contents.{Contents}
 

@@ -1,5 +1,5 @@
 -- Sums, counts and searches over the numbers below a bound.
-use Rattle.std.specs.Prelude.{ℕ, zero, suc, ◌+◌, max, Bool, false, cond, ◌||◌, ltb, List, [], ◌++◌}
+use Rattle.std.specs.Prelude.{ℕ, zero, suc, ◌+◌, max, Bool, false, cond, ◌||◌, List, [], ◌++◌}
 
 -- f 0 + f 1 + … + f (n − 1)
 unfoldable pub sum_below : ℕ → (ℕ → ℕ) → ℕ

@@ -1,4 +1,4 @@
-use Rattle.std.proofs.Common.{◌≡◌, ℕ, ◌+◌, ◌*◌, ◌≤◌, sym, refl, ap, ◌∙◌, arith}
+use Rattle.std.proofs.Common.{◌≡◌, ℕ, ◌+◌, ◌*◌, ◌≤◌, refl, ap, arith}
 use Rattle.std.proofs.lemmas.Nat.{mul-le}
 use Rattle.numbers.specs.Below.{sum_below}
 use Rattle.format.specs.Layout.{byte}

@@ -1,4 +1,4 @@
-use Rattle.std.proofs.Common.{◌≡◌, ◌<◌, not, sym, ap, arith}
+use Rattle.std.proofs.Common.{◌<◌, not, sym, ap, arith}
 use Rattle.std.proofs.lemmas.Bool.{not-false}
 use Rattle.format.specs.Layout.{byte}
 use Rattle.format.specs.Checks.{wrong_name_byte}

@@ -2,7 +2,7 @@ use Rattle.std.proofs.Common.{◌≡◌, ◌+◌, ◌*◌, ◌/◌, ◌%◌, ◌
 use lib.Bits.{bit_or, or_lt}
 use Rattle.numbers.specs.Bits.{bit}
 use Rattle.numbers.proofs.BitLaws.{bit_of_or, from_bits_self, from_bits_same}
-use Rattle.analysis.specs.FlagsAlgebra.{may, related}
+use Rattle.analysis.specs.FlagsAlgebra.{may}
 use Rattle.analysis.specs.FlagPairs.{same_flags}
 use Rattle.analysis.proofs.flags.as_kind.FlagsKind.either.Goals as goal
 
