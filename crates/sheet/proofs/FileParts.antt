@@ -1,11 +1,11 @@
 -- What stands in a file, place by place.
-use Rattle.std.proofs.Common.{◌≡◌, ℕ, ◌+◌, ◌<◌, ◌≤◌, true, ltb, length, get_or, is_some, Some, None, sym, ap, ◌∙◌, ⊎_elim, arith}
+use Rattle.std.proofs.Common.{◌≡◌, ℕ, ◌+◌, ◌<◌, ◌≤◌, true, ltb, length, get_or, is_some, Some, None, ap, ◌∙◌, ⊎_elim, arith}
 use Rattle.std.proofs.lemmas.List.FromFn.{length-map-range_with_len, get_or-map-range_with_len}
 use Rattle.std.proofs.lemmas.List.{get_or_past}
 use Rattle.std.proofs.lemmas.Bool.{both_ways, cases_lt, lt-ltb, le-ltb, cond-true, cond-false}
 use Rattle.format.specs.Layout.{Bytes, byte, part, record_at, step_of}
 use Rattle.format.proofs.Cuts.{byte_part}
-use Rattle.diagram.specs.Drawn.{step_of as Row-step, goal_of}
+use Rattle.diagram.specs.Drawn.{step_of as row_step, goal_of}
 use Rattle.sheet.specs.FileDiagram.{steps_in, outcomes_in, mask_at, outcome_at, row_in, row_at, file_standing, file_diagram}
 
 module _ (file : Bytes) where
@@ -46,7 +46,7 @@ module _ (file : Bytes) where
       ⊎_elim (λ inside. inside) (λ beyond. absurd (both_ways ((file_diagram file).used r) (ap is_some (file_free r beyond)) used)) (cases_lt r (outcomes_in file))
 
   pub file_step : outcomes_in file ≤ 256 → (r : ℕ) → r < outcomes_in file → (file_diagram file).step r ≡ step_of (outcome_at file r)
-  file_step few r lt = ap Row-step (file_outcome few r lt)
+  file_step few r lt = ap row_step (file_outcome few r lt)
 
   pub file_to : outcomes_in file ≤ 256 → (r p : ℕ) → r < outcomes_in file → (file_diagram file).to r p ≡ get_or (part (outcome_at file r) 2 8) p 255
   file_to few r p lt = ap (λ row. goal_of row p) (file_outcome few r lt)

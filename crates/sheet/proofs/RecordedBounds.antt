@@ -1,8 +1,8 @@
 -- The bounds that a file's records keep, by the counts that were made of them.
-use Rattle.std.proofs.Common.{◌≡◌, ℕ, ◌+◌, ◌<◌, ◌≤◌, sym, ap, subst, arith}
+use Rattle.std.proofs.Common.{◌+◌, ◌≤◌, sym, subst}
 use Rattle.format.specs.Layout.{Bytes, record_count}
 use Rattle.format.specs.declared.records.Contents.{Contents}
-use Rattle.format.proofs.InOrder.{InOrder, in_order}
+use Rattle.format.proofs.InOrder.{in_order}
 use Rattle.sheet.specs.Drafts.{Recorded}
 
 pub record Bounds (file : Bytes) (contents : Contents) : Type 0 where

@@ -3,7 +3,8 @@ use Rattle.std.proofs.Common.{◌≡◌, ℕ, ◌+◌, ◌<◌, ◌≤◌, Bool,
 use Rattle.std.proofs.lemmas.List.{get_or_past}
 use Rattle.std.proofs.lemmas.Bool.{both_ways, cases_lt, and_parts, or_parts, not-true, not-false, ltb-true, eqb-true, eqb-false, eq-eqb, ne_eqb, cond-true}
 use Rattle.numbers.proofs.BelowLaws.{some_at, none_at}
-use Rattle.diagram.specs.Diagrams.{Diagram, Inner, Lawful, number}
+use Rattle.diagram.specs.Diagrams.{Diagram, Inner, Lawful}
+use Rattle.diagram.specs.Worked.{number}
 use Rattle.diagram.specs.Moves.{outcome_of}
 use Rattle.diagram.specs.declared.rows.Row.{Row}
 use Rattle.diagram.proofs.Tests.{second_fails}
@@ -48,17 +49,17 @@ module _ (s : Standing) (small : (n : ℕ) → get_or s.masks n 0 < 256) where
 
   module _ (two : 2 ≤ length masks)
       (nonzero : (n : ℕ) → n < length masks → get_or masks n 0 ≡ 0 → ⊥)
-      (steps-right : (n : ℕ) → n < length masks → wrong_parties s n ≡ false)
-      (rows-inner : (r : ℕ) → D.used r ≡ true → D.step r + 1 < length masks)
+      (steps_right : (n : ℕ) → n < length masks → wrong_parties s n ≡ false)
+      (rows_inner : (r : ℕ) → D.used r ≡ true → D.step r + 1 < length masks)
       (rows_right : (r : ℕ) → D.used r ≡ true → wrong_goals masks (get_or rows r None) ≡ false)
-      (steps-led : (n : ℕ) → n < D.end → no_outcome s n ≡ false) where
+      (steps_led : (n : ℕ) → n < D.end → no_outcome s n ≡ false) where
     inside_stands : (n : ℕ) → n < length masks → D.stands n ≡ true
     inside_stands n lt = ap not (ne_eqb (get_or masks n 0) 0 (nonzero n lt))
 
     -- the two parts of a step's check: the start's mask, and the parties that are lacking
     parts_right : (n : ℕ) → n < length masks
         → ((eqb n 0 && not (first_parties (get_or masks 0 0))) ≡ false) × ((lacks_one (D.part n) (D.part 0) || (eqb n D.end && lacks_one (D.part 0) (D.part n))) ≡ false)
-    parts_right n lt = or_parts (eqb n 0 && not (first_parties (get_or masks 0 0))) _ (steps-right n lt)
+    parts_right n lt = or_parts (eqb n 0 && not (first_parties (get_or masks 0 0))) _ (steps_right n lt)
 
     start_first : first_parties (get_or masks 0 0) ≡ true
     start_first = not-false _ (parts_right 0 (omega arith)).0
@@ -92,7 +93,7 @@ module _ (s : Standing) (small : (n : ℕ) → get_or s.masks n 0 < 256) where
     led n inner =
         let lt = stands_inside n inner.0 in
         let before : n < D.end = ⊎_elim (λ l. l) (λ ge. absurd (inner.1 (omega arith))) (cases_lt n D.end) in
-        let found = some_at D.size (outcome_of D n) (not-false _ (steps-led n before)) in
+        let found = some_at D.size (outcome_of D n) (not-false _ (steps_led n before)) in
         let parts = and_parts (D.used found.0) (eqb (D.step found.0) n) found.2 in
         (found.0, parts.0, eqb-true _ n parts.1)
 
@@ -107,7 +108,7 @@ module _ (s : Standing) (small : (n : ℕ) → get_or s.masks n 0 < 256) where
           step_peopled = peopled;
           part_known = known;
           row_placed = used_inside;
-          row_inner = λ r used. let lt = rows-inner r used in (inside_stands (D.step r) (omega arith), λ e. omega arith);
+          row_inner = λ r used. let lt = rows_inner r used in (inside_stands (D.step r) (omega arith), λ e. omega arith);
           row_stands = λ r p used in'. peopled_stands (D.to r p) p (goal r p used in').1;
           row_has = λ r p used in'. (goal r p used in').1;
           row_rises = λ r p used in'. ltb-true _ _ (goal r p used in').0;

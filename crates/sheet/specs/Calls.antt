@@ -1,5 +1,5 @@
 -- What load and label answer and leave.
-use Rattle.std.specs.Prelude.{◌≡◌, ℕ, Bool, cond, not, ◌||◌, List, [], ◌∷◌, ◌++◌, length, is_some, Some, None, Option, nat_le, nat_lt, slice_index_or}
+use Rattle.std.specs.Prelude.{◌≡◌, ℕ, Bool, cond, not, ◌||◌, List, [], ◌∷◌, ◌++◌, is_some, Some, None, Option, nat_le, nat_lt, slice_index_or}
 use Rattle.analysis.specs.Algebra.{Algebra}
 use Rattle.format.specs.Layout.{Bytes}
 use Rattle.format.specs.Refusals.{Check, call_check}

@@ -9,10 +9,14 @@ use Rattle.diagram.specs.Moves.{outcome_of}
 use Rattle.diagram.specs.declared.rows.Row.{Row}
 use Rattle.format.specs.Checks.{contents_of, record_layer}
 use Rattle.format.specs.Layout.{Bytes}
-use Rattle.format.specs.Refusals.{Check, diagram-check}
+use Rattle.format.specs.Refusals.{Check}
 use Rattle.format.specs.declared.records.Contents.{Contents}
 use Rattle.sheet.specs.FileDiagram.{steps_in, outcomes_in, outcome_at, label_bytes, parties_at, file_standing}
 use Rattle.sheet.specs.Standing.{Standing, diagram_in}
+
+-- a check of the diagram layer
+abbrev pub diagram_check : ℕ → ℕ → Bool → Check
+diagram_check n p fails = record { answers = record { number = n; layer = 3; place = p }; fails = fails }
 
 -- some party is in the first set and not in the second
 abbrev pub lacks_one : Set → Set → Bool
@@ -49,15 +53,15 @@ wrong_label a bytes P = not (a.suits bytes P)
 
 -- the checks by 10: first that there are two steps, then each step's
 abbrev pub parties_checks : Contents → Standing → List Check
-parties_checks c s = diagram-check 10 0 (nat_lt c.steps 2) ∷ each_below c.steps (λ n. diagram-check 10 n (wrong_parties s n) ∷ [])
+parties_checks c s = diagram_check 10 0 (nat_lt c.steps 2) ∷ each_below c.steps (λ n. diagram_check 10 n (wrong_parties s n) ∷ [])
 
 -- the checks by 11, at each outcome's record
 abbrev pub goal_checks : Contents → Standing → List Check
-goal_checks c s = each_below c.outcomes (λ r. diagram-check 11 (c.steps + r) (wrong_goals s.masks (slice_index_or s.rows r None)) ∷ [])
+goal_checks c s = each_below c.outcomes (λ r. diagram_check 11 (c.steps + r) (wrong_goals s.masks (slice_index_or s.rows r None)) ∷ [])
 
 -- the checks by 12, at each step but the end
 abbrev pub outcome_checks : Contents → Standing → List Check
-outcome_checks c s = each_below (c.steps - 1) (λ n. diagram-check 12 n (no_outcome s n) ∷ [])
+outcome_checks c s = each_below (c.steps - 1) (λ n. diagram_check 12 n (no_outcome s n) ∷ [])
 
 -- 10 to 12
 abbrev pub shape_checks : Contents → Standing → List Check
@@ -66,7 +70,7 @@ shape_checks c s = parties_checks c s ++ (goal_checks c s ++ outcome_checks c s)
 -- the checks by 13, at each outcome's record
 abbrev pub label_checks : {V : Type 0} → Algebra V → Bytes → List Check
 label_checks a file =
-    each_below (outcomes_in file) (λ r. diagram-check 13 (steps_in file + r) (wrong_label a (label_bytes (outcome_at file r)) (parties_at file r)) ∷ [])
+    each_below (outcomes_in file) (λ r. diagram_check 13 (steps_in file + r) (wrong_label a (label_bytes (outcome_at file r)) (parties_at file r)) ∷ [])
 
 -- layers 1 to 3
 abbrev pub diagram_layer : {V : Type 0} → Algebra V → Bytes → List Check

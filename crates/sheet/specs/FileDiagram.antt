@@ -1,5 +1,5 @@
 -- What a setup file means: the diagram and the labels in its bytes.
-use Rattle.std.specs.Prelude.{ℕ, ◌+◌, cond, List, map, Some, None, Option, nat_lt}
+use Rattle.std.specs.Prelude.{ℕ, ◌+◌, cond, map, Some, None, Option, nat_lt}
 use Rattle.std.specs.List.{range_with_len}
 use Rattle.analysis.specs.Algebra.{Algebra}
 use Rattle.analysis.specs.Parties.{Set}

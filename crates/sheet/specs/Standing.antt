@@ -1,7 +1,8 @@
 -- What stands on a sheet.
 use Rattle.std.specs.Prelude.{◌≡◌, ℕ, Bool, ◌⊎◌, List, [], map, length, take, replicate, None, Option, ◌==◌}
 use Rattle.analysis.specs.declared.parties.Parties.{Parties}
-use Rattle.diagram.specs.Diagrams.{Diagram, Lawful, number}
+use Rattle.diagram.specs.Diagrams.{Diagram, Lawful}
+use Rattle.diagram.specs.Worked.{number}
 use Rattle.diagram.specs.Drawn.{drawn}
 use Rattle.diagram.specs.declared.rows.Row.{Row}
 use Rattle.sheet.specs.declared.steps.Steps.{Steps}

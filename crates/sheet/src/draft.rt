@@ -10,8 +10,6 @@ use crate::steps::Steps;
 use crate::table::Table;
 use format::records::Contents;
 
-pub(crate) mod checks;
-
 // How many steps and outcomes there are, and what they say.
 #[derive(Clone, Copy)]
 pub(crate) struct Draft {

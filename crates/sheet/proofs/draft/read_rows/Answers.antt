@@ -11,11 +11,11 @@ loop-r-init c k lt =
     ap (λ rows. get_or rows k None) c.free-table.ensures ∙ get_or-replicate 256 k None None lt
     ∙ sym (cond-false (ltb k 0) (Some (row_in (outcome_at c.args.file.now k))) None (le-ltb k 0 (omega arith)))
 
-pub overflow-add-contents : goal.overflow-add-contents
-overflow-add-contents c = let most = bounds c.args.file.now c.args.contents c.requires in omega arith
+pub overflow_add-contents : goal.overflow_add-contents
+overflow_add-contents c = let most = bounds c.args.file.now c.args.contents c.requires in omega arith
 
-pub record-at-requires : goal.record-at-requires
-record-at-requires c = let most = bounds c.args.file.now c.args.contents c.requires in omega arith
+pub record_at-requires : goal.record_at-requires
+record_at-requires c = let most = bounds c.args.file.now c.args.contents c.requires in omega arith
 
 pub put-requires : goal.put-requires
 put-requires c = let most = bounds c.args.file.now c.args.contents c.requires in omega arith

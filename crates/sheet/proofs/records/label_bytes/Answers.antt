@@ -5,4 +5,4 @@ use Rattle.sheet.proofs.records.label_bytes.Goals as goal
 pub returns : goal.returns
 returns c =
     let rec = c.args.rec.now in
-    c.copy-from-slice.ensures.after ∙ ap (λ rest. take 32 (drop 8 rest)) (take_rest rec 2) ∙ ap (take 32) (drop-drop 8 2 rec)
+    c.copy_from_slice.ensures.after ∙ ap (λ rest. take 32 (drop 8 rest)) (take_rest rec 2) ∙ ap (take 32) (drop-drop 8 2 rec)

@@ -1,4 +1,4 @@
-use Rattle.std.proofs.Common.{◌≡◌, ◌≤◌, length, sym, arith}
+use Rattle.std.proofs.Common.{◌≤◌, length, sym, arith}
 use Rattle.sheet.proofs.Listed.{length_masks}
 use Rattle.sheet.proofs.steps.Steps.count.Goals as goal
 

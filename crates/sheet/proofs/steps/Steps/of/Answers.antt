@@ -1,4 +1,4 @@
-use Rattle.std.proofs.Common.{◌≡◌, ◌≤◌, length, sym, arith}
+use Rattle.std.proofs.Common.{◌≤◌, length, sym, arith}
 use Rattle.sheet.proofs.Listed.{mask_below, mask_beyond}
 use Rattle.sheet.proofs.steps.Steps.of.Goals as goal
 

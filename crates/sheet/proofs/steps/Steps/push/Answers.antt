@@ -1,4 +1,4 @@
-use Rattle.std.proofs.Common.{◌+◌, ◌<◌, ◌≤◌, length, ◌∙◌, arith}
+use Rattle.std.proofs.Common.{◌<◌, ◌≤◌, length, ◌∙◌, arith}
 use Rattle.std.proofs.lemmas.List.{length-set}
 use Rattle.sheet.proofs.Listed.{length_masks, masks_more}
 use Rattle.sheet.proofs.steps.Steps.push.Goals as goal
@@ -13,10 +13,13 @@ room c =
 pub bounds-self-n : goal.bounds-self-n
 bounds-self-n c = omega (arith, room (goal.at.bounds-self-n c).Start)
 
-pub invariant-of-self : goal.invariant-of-self
-invariant-of-self c =
+pub invariant_of-self : goal.invariant_of-self
+invariant_of-self c =
     let steps = c.args.self.now in
-    (length-set steps.parties steps.count c.args.parties ∙ steps.long, (omega (arith, room (goal.at.invariant-of-self c).Start, steps.long), tt))
+    record {
+      long = length-set steps.parties steps.count c.args.parties ∙ steps.long;
+      few = omega (arith, room (goal.at.invariant_of-self c).Start, steps.long);
+    }
 
 pub returns : goal.returns
 returns c = masks_more c.args.self.now.count c.args.self.now.parties c.args.parties (room (goal.at.returns c).Start)
