@@ -14,6 +14,13 @@ TOKEN = re.compile(r"[^\s(){}\[\].,;:\"|]+")
 DECLARED = re.compile(r"^\s*(?:pub |abbrev |unfoldable )*(?:record |data )?([^\s(){}\[\].,;:\"|]+)\s*(?:\([^)]*\)\s*|\{[^}]*\}\s*)*:\s+(.*)$")
 # two laws of bits, which would be called as the library's operations are
 APART = {"bit-and": "bit_of_and", "bit-or": "bit_of_or"}
+# names of parameters and parts of proofs, which no line declares, and one that the kit's script left half turned
+BOUND = (
+    "can-left can-q can-r can-right in-A in-m in-n in-q in-r in-t kind-right left-ends left-low low-n m-low m-n m-on named-right"
+    " not-here of-x of-y on-left on-right on-s out-A out-m out-q out-r out-t outcome-check p-n p-on q-first q-lt right-ends right-low"
+    " s-known s-low s-lt share-q start-below t-then two-k with-j"
+)
+LEFT = {"Goes_on": "GoesOn"}
 RECORD = re.compile(r"^\s*(?:pub )?(?:record|data) ([^\s(){}\[\].,;:\"|]+)")
 MADE_FILES = ("Answers.antt", "Invariants.antt")
 
@@ -64,6 +71,13 @@ def respelled(name):
     return name.replace("-", "_")
 
 
+def in_words(path, names):
+    """The names that this file turns: answers keep the bound ones, among which the check's own names may be."""
+    if os.path.basename(path) in MADE_FILES:
+        return {old: new for old, new in names.items() if old not in BOUND.split()}
+    return names
+
+
 def turn(text, names, comment):
     lines = []
     for line in text.split("\n"):
@@ -79,7 +93,7 @@ def main(argv):
     own = declared(root)
     for name in sorted(own & library):
         print(f"respell: {name} is a name of the library too, and stays")
-    names = {name: respelled(name) for name in own - library}
+    names = {name: respelled(name) for name in (own | set(BOUND.split())) - library} | LEFT
     taken = {}
     for path in texts(root, (".antt", ".rt")):
         with open(path, encoding="utf-8") as file:
@@ -98,7 +112,7 @@ def main(argv):
     for path in texts(root, (".antt", ".rt")):
         with open(path, encoding="utf-8") as file:
             text = file.read()
-        new = turn(text, names, "--" if path.endswith(".antt") else "//")
+        new = turn(text, in_words(path, names), "--" if path.endswith(".antt") else "//")
         if new != text:
             with open(path, "w", encoding="utf-8") as file:
                 file.write(new)

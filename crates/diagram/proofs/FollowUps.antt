@@ -145,13 +145,13 @@ module _ (rank : ℕ → ℕ) (D : Diagram) (lawful : Lawful rank D) (r m : ℕ)
         let of' = (follows t h).1 in
         (λ i. cond (D.part (step_new t h i) p) (to_new t p h i) (M p))
         ∙ ⊎_elim
-        (λ in-m.
-        cond-true (D.part (D.step r) p) _ (M p) (may.inside p in-m)
-        ∙ cond-true (D.part m p) _ _ in-m
-        ∙ sym (moved D (take_row D M r) q p (ap (λ n. D.part n p) of' ∙ in-m)))
-        (λ out-m.
-        ap (λ x. cond (D.part (D.step r) p) x (M p)) (cond-false (D.part m p) (D.to q p) (D.to r p) out-m)
-        ∙ sym (stayed D (take_row D M r) q p (ap (λ n. D.part n p) of' ∙ out-m)))
+        (λ in_m.
+        cond-true (D.part (D.step r) p) _ (M p) (may.inside p in_m)
+        ∙ cond-true (D.part m p) _ _ in_m
+        ∙ sym (moved D (take_row D M r) q p (ap (λ n. D.part n p) of' ∙ in_m)))
+        (λ out_m.
+        ap (λ x. cond (D.part (D.step r) p) x (M p)) (cond-false (D.part m p) (D.to q p) (D.to r p) out_m)
+        ∙ sym (stayed D (take_row D M r) q p (ap (λ n. D.part n p) of' ∙ out_m)))
         (cases_Bool (D.part m p)))
 
     pub taking_old : (M : Marking) (t : ℕ) → takes t ≡ false → take_row D' M t ≡ take_row D M t

@@ -36,8 +36,8 @@ module _ (rank : ℕ → ℕ) (D : Diagram) (lawful : Lawful rank D) (nothing : 
   no_merge_up : (i j : ℕ) → i < j → may_merge D i j ≡ true → ⊥
   no_merge_up i j lt may =
       let uses = and_parts (D.used i) (D.used j) (and_parts (D.used i && D.used j) _ may).0 in
-      let with-j = some_found D.size (merges_with D i) j (lawful.row_placed j uses.1) (and_from (ltb i j) (may_merge D i j) (lt-ltb i j lt) may) in
-      both_ways (ltb (first_merging D) D.size) passed_over.0 (first_found D.size (λ t. some_below D.size (merges_with D t)) i (lawful.row_placed i uses.0) with-j)
+      let with_j = some_found D.size (merges_with D i) j (lawful.row_placed j uses.1) (and_from (ltb i j) (may_merge D i j) (lt-ltb i j lt) may) in
+      both_ways (ltb (first_merging D) D.size) passed_over.0 (first_found D.size (λ t. some_below D.size (merges_with D t)) i (lawful.row_placed i uses.0) with_j)
 
   merge_from : (i j : ℕ) → D.used i ≡ true → D.used j ≡ true → (i ≡ j → ⊥) → D.step i ≡ D.step j → ((p : ℕ) → D.part (D.step i) p ≡ true → D.to i p ≡ D.to j p) → may_merge D i j ≡ true
   merge_from i j ui uj ne one goals =
@@ -87,15 +87,15 @@ module _ (rank : ℕ → ℕ) (D : Diagram) (lawful : Lawful rank D) (nothing : 
         let two : 1 < outcomes D m = ⊎_elim (λ same. absurd (not_one same)) (⊎_elim (λ less. absurd (omega arith)) (λ more. more)) (cases_order (outcomes D m) 1) in
         let x = count_at D.size (outcome_of D m) 0 (omega arith) in
         let y = count_at D.size (outcome_of D m) 1 two in
-        let of-x = and_parts (D.used x.0) (eqb (D.step x.0) m) x.2 in
-        let of-y = and_parts (D.used y.0) (eqb (D.step y.0) m) y.2 in
+        let of_x = and_parts (D.used x.0) (eqb (D.step x.0) m) x.2 in
+        let of_y = and_parts (D.used y.0) (eqb (D.step y.0) m) y.2 in
         record {
           one = x.0;
           other = y.0;
-          one_used = of-x.0;
-          other_used = of-y.0;
-          one_of = eqb-true _ m of-x.1;
-          other_of = eqb-true _ m of-y.1;
+          one_used = of_x.0;
+          other_used = of_y.0;
+          one_of = eqb-true _ m of_x.1;
+          other_of = eqb-true _ m of_y.1;
           differ = λ same.
               let cx = x.3 in
               let cy = y.3 in

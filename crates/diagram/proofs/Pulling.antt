@@ -43,12 +43,12 @@ module _ (D : Diagram) where
   pub diamond : (M : Marking) (t q : ℕ) → ((p : ℕ) → D.part (D.step t) p ≡ true → D.part (D.step q) p ≡ false) → take_row D (take_row D M t) q ≡ take_row D (take_row D M q) t
   diamond M t q share = fun_ext (λ p.
       ⊎_elim
-      (λ in-t.
-      stayed D (take_row D M t) q p (share p in-t) ∙ moved D M t p in-t ∙ sym (moved D (take_row D M q) t p in-t))
-      (λ out-t.
+      (λ in_t.
+      stayed D (take_row D M t) q p (share p in_t) ∙ moved D M t p in_t ∙ sym (moved D (take_row D M q) t p in_t))
+      (λ out_t.
       ⊎_elim
-      (λ in-q. moved D (take_row D M t) q p in-q ∙ sym (stayed D (take_row D M q) t p out-t ∙ moved D M q p in-q))
-      (λ out-q. stayed D (take_row D M t) q p out-q ∙ stayed D M t p out-t ∙ sym (stayed D (take_row D M q) t p out-t ∙ stayed D M q p out-q))
+      (λ in_q. moved D (take_row D M t) q p in_q ∙ sym (stayed D (take_row D M q) t p out_t ∙ moved D M q p in_q))
+      (λ out_q. stayed D (take_row D M t) q p out_q ∙ stayed D M t p out_t ∙ sym (stayed D (take_row D M q) t p out_t ∙ stayed D M q p out_q))
       (cases_Bool (D.part (D.step q) p)))
       (cases_Bool (D.part (D.step t) p)))
 
@@ -92,16 +92,16 @@ module _ {V : Type 0} (a : Algebra V) (laws : Laws a) (D : Diagram) (label : ℕ
       let back : (p : ℕ) → D.part m p ≡ true → D.part (D.step t) p ≡ false = apart D M m (D.step t) (λ e. ne (sym e)) w can.1.1 in
       let on = pull rest (waiting_on D M m t w back) (⊎_elim (λ e. absurd (ne e)) (λ g. g) (fires_cases D m f)) in
       let q = on.row in
-      let share-q : (p : ℕ) → D.part (D.step t) p ≡ true → D.part (D.step q) p ≡ false = λ p in'. ap (λ n. D.part n p) on.of_step ∙ share p in' in
+      let share_q : (p : ℕ) → D.part (D.step t) p ≡ true → D.part (D.step q) p ≡ false = λ p in'. ap (λ n. D.part n p) on.of_step ∙ share p in' in
       let canq = first_can D on.run in
       let behind = after_first D on.run in
-      let q-first : Can D M q = (canq.0, subst (Enabled D M) (sym on.of_step) (inner, w)) in
-      let t-then : Can D (take_row D M q) t = (can.0, (can.1.0, waiting_on D M (D.step t) q can.1.1 share-q)) in
+      let q_first : Can D M q = (canq.0, subst (Enabled D M) (sym on.of_step) (inner, w)) in
+      let t_then : Can D (take_row D M q) t = (can.0, (can.1.0, waiting_on D M (D.step t) q can.1.1 share_q)) in
       record {
         row = q;
         rest = t ∷ on.rest;
         of_step = on.of_step;
-        run = go q-first (go t-then (subst (λ N. Run D N on.rest X) (diamond D M t q share-q) behind));
+        run = go q_first (go t_then (subst (λ N. Run D N on.rest X) (diamond D M t q share_q) behind));
         shorter = ap suc on.shorter;
         same_label =
             label_first a laws label t rs
@@ -109,7 +109,7 @@ module _ {V : Type 0} (a : Algebra V) (laws : Laws a) (D : Diagram) (label : ℕ
             ∙ sym (laws.then_associative (label t) (label q) (run_label a label on.rest))
             ∙ ap (λ x. a.then x (run_label a label on.rest))
             (laws.disjoint_commute (label t) (label q) (D.part (D.step t)) (D.part (D.step q))
-            (λ p in-t in-q. both_ways (D.part (D.step q) p) (share-q p in-t) in-q)
+            (λ p in_t in_q. both_ways (D.part (D.step q) p) (share_q p in_t) in_q)
             (belong t can.0) (belong q canq.0))
             ∙ laws.then_associative (label q) (label t) (run_label a label on.rest)
             ∙ sym (ap (a.then (label q)) (label_first a laws label t on.rest));

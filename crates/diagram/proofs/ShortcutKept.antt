@@ -24,8 +24,8 @@ abbrev Alive : Diagram → ℕ → Type 0
 Alive D n = (X : Marking) × Leads D first X × Enabled D X n
 
 -- every run can be prolonged to a complete one
-abbrev Goes_on : Diagram → Type 0
-Goes_on D = (X : Marking) → Leads D first X → (Y : Marking) × Leads D X Y × AtEnd D Y
+abbrev GoesOn : Diagram → Type 0
+GoesOn D = (X : Marking) → Leads D first X → (Y : Marking) × Leads D X Y × AtEnd D Y
 
 pub joined : (D : Diagram) {M X Y : Marking} → Leads D M X → Leads D X Y → Leads D M Y
 joined D one two = (one.0 ++ two.0, run_append D one.1 two.1)
@@ -49,13 +49,13 @@ module _ (rank : ℕ → ℕ) (D : Diagram) (lawful : Lawful rank D) (r m : ℕ)
   told_before : {M X : Marking} → Leads E M X → Leads D M X
   told_before l = let e = expand rank D lawful r m may a laws label belong l.1 in (e.0, e.1)
 
-  goes_forth : Goes_on D → Goes_on E
+  goes_forth : GoesOn D → GoesOn E
   goes_forth on X leads =
       let found = on X (told_before leads) in
       let c = contract rank D lawful r m may a laws label belong (length found.1.0) (omega arith) found.1.1 found.2 in
       (found.0, (c.0, c.1), found.2)
 
-  goes_back : Goes_on E → Goes_on D
+  goes_back : GoesOn E → GoesOn D
   goes_back on X leads =
       let tail = with_tail rank D lawful r m may a laws label belong (length leads.0) (omega arith) leads.1 in
       let found = on tail.end tail.told in
@@ -137,7 +137,7 @@ module _ (rank : ℕ → ℕ) (D : Diagram) (lawful : Lawful rank D) (r m : ℕ)
       absurd (omega arith)
 
   -- where a row still leads to the target, it is enabled after some run
-  target_stays : Goes_on E → ((n : ℕ) → Inner E n → (n ≡ m → ⊥) → Alive E n) → Led → Alive E m
+  target_stays : GoesOn E → ((n : ℕ) → Inner E n → (n ≡ m → ⊥) → Alive E n) → Led → Alive E m
   target_stays on others l =
       let t = l.row in
       let alive = others (E.step t) ((with_lawful rank D lawful r m may).row_inner t l.used) (led_other l) in
@@ -178,14 +178,14 @@ module _ (rank : ℕ → ℕ) (D : Diagram) (lawful : Lawful rank D) (r m : ℕ)
     strike_back : {M X : Marking} → Leads S M X → Leads E M X
     strike_back l = (l.0, strike.back rank E lawful_E m may.target_inner may.not_start quiet l.1)
 
-    goes_struck : Goes_on E → Goes_on S
+    goes_struck : GoesOn E → GoesOn S
     goes_struck on X leads =
         let before = strike_back leads in
         let found = on X before in
         let avoids = strike.run_avoids rank E lawful_E m may.target_inner may.not_start quiet (strike.first_avoids rank E lawful_E m may.target_inner may.not_start quiet) before.1 in
         (found.0, (found.1.0, strike.forth rank E lawful_E m may.target_inner may.not_start quiet avoids found.1.1), found.2)
 
-    goes_unstruck : Goes_on S → Goes_on E
+    goes_unstruck : GoesOn S → GoesOn E
     goes_unstruck on X leads = let found = on X (strike_forth leads) in (found.0, strike_back found.1, found.2)
 
     alive_struck : (n : ℕ) → (n ≡ m → ⊥) → Alive E n → Alive S n

@@ -39,14 +39,14 @@ module _ (rank : ℕ → ℕ) (D : Diagram) (lawful : Lawful rank D) (r m : ℕ)
   goal t p h in' =
       subst (Goal p) (sym (to_new rank D lawful r m may t p h))
       (⊎_elim
-      (λ in-m.
+      (λ in_m.
       let q = followed D r m t in
       let of' = follows rank D lawful r m may t h in
-      let in-q : D.part (D.step q) p ≡ true = ap (λ n. D.part n p) of'.1 ∙ in-m in
-      let low = step_below p in-m in
-      let high = above_target q p of'.0 of'.1 in-m in
-      subst (Goal p) (sym (cond-true (D.part m p) (D.to q p) (D.to r p) in-m))
-      (record { stands = lawful.row_stands q p of'.0 in-q; has = lawful.row_has q p of'.0 in-q; rises = omega arith }))
+      let in_q : D.part (D.step q) p ≡ true = ap (λ n. D.part n p) of'.1 ∙ in_m in
+      let low = step_below p in_m in
+      let high = above_target q p of'.0 of'.1 in_m in
+      subst (Goal p) (sym (cond-true (D.part m p) (D.to q p) (D.to r p) in_m))
+      (record { stands = lawful.row_stands q p of'.0 in_q; has = lawful.row_has q p of'.0 in_q; rises = omega arith }))
       (λ out.
       subst (Goal p) (sym (cond-false (D.part m p) (D.to (followed D r m t) p) (D.to r p) out))
       (record { stands = lawful.row_stands r p may.row_used in'; has = lawful.row_has r p may.row_used in'; rises = lawful.row_rises r p may.row_used in' }))

@@ -37,15 +37,15 @@ module _ (rank : ℕ → ℕ) (D : Diagram) (lawful : Lawful rank D) (r m : ℕ)
       let still : Waiting D m X = λ p in'. ⊎_elim (λ e. e) (λ gone. absurd (quiet (leaves D rest m p (w p in') gone))) (cases_eq (X p) m) in
       let led = lawful.step_led m may.target_inner in
       let q = led.0 in
-      let can-q : Can D X q = (led.1, subst (Enabled D X) (sym led.2) (may.target_inner, still)) in
-      let longer = run_append D rest (go can-q stop) in
+      let can_q : Can D X q = (led.1, subst (Enabled D X) (sym led.2) (may.target_inner, still)) in
+      let longer = run_append D rest (go can_q stop) in
       let pulled = pull a laws D label belong m may.target_inner longer w (fires_last D m rs q led.2) in
       let more = with_tail n (let s = pulled.shorter in let l = length-append rs (q ∷ []) in omega arith) (after_first D pulled.run) in
       let first' = new_first rank D lawful r m may a laws label belong M more.end t pulled.row more.told.0 same can (first_can D pulled.run).0 pulled.of_step more.told.1 in
       record {
         end = more.end;
         told = (first'.0 ∷ more.told.0, first'.1);
-        on = (q ∷ more.on.0, go can-q more.on.1);
+        on = (q ∷ more.on.0, go can_q more.on.1);
         keeps = λ s ne en.
             more.keeps s ne (en.0, waiting_on D X s q en.1 (λ p in'. ap (λ k. D.part k p) led.2 ∙ apart D X s m ne en.1 still p in'));
       })

@@ -51,10 +51,10 @@ module _ (rank : ℕ → ℕ) (D : Diagram) (lawful : Lawful rank D) (r m : ℕ)
       let q = followed D r m t in
       let of' = follows rank D lawful r m may t h in
       let behind : Run D (take_row D (take_row D M r) q) ss X = subst (λ N. Run D N ss X) (taking_new rank D lawful r m may M t h) more.1 in
-      let can-r : Can D M r = (may.row_used, subst (Enabled D M) (step_new rank D lawful r m may t h) can.1) in
-      let can-q : Can D (take_row D M r) q = (of'.0, subst (Enabled D (take_row D M r)) (sym of'.1) (may.target_inner, waiting M r refl)) in (
+      let can_r : Can D M r = (may.row_used, subst (Enabled D M) (step_new rank D lawful r m may t h) can.1) in
+      let can_q : Can D (take_row D M r) q = (of'.0, subst (Enabled D (take_row D M r)) (sym of'.1) (may.target_inner, waiting M r refl)) in (
         r ∷ q ∷ ss,
-        go can-r (go can-q behind),
+        go can_r (go can_q behind),
         label_first a laws label r (q ∷ ss)
             ∙ ap (a.then (label r)) (label_first a laws label q ss)
             ∙ sym (laws.then_associative (label r) (label q) (run_label a label ss))

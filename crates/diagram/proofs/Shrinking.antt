@@ -69,10 +69,10 @@ module _ (rank : ℕ → ℕ) (D : Diagram) (lawful : Lawful rank D) where
                 let now : rank (E.to t p) ≡ rank (cond (D.part m p) (D.to q p) (D.to r p)) = ap rank (to_new rank D lawful r m may t p n) in
                 let was : rank (D.to t p) ≡ rank (D.to r p) = ap (λ u. rank (D.to u p)) same in
                 ⊎_elim
-                (λ in-m.
-                let there : rank (cond (D.part m p) (D.to q p) (D.to r p)) ≡ rank (D.to q p) = ap rank (cond-true (D.part m p) (D.to q p) (D.to r p) in-m) in
-                let up = above_target rank D lawful r m may q p of'.0 of'.1 in-m in
-                let at : rank (D.to r p) ≡ rank m = ap rank (may.sent p in-m) in
+                (λ in_m.
+                let there : rank (cond (D.part m p) (D.to q p) (D.to r p)) ≡ rank (D.to q p) = ap rank (cond-true (D.part m p) (D.to q p) (D.to r p) in_m) in
+                let up = above_target rank D lawful r m may q p of'.0 of'.1 in_m in
+                let at : rank (D.to r p) ≡ rank m = ap rank (may.sent p in_m) in
                 omega arith)
                 (λ out.
                 let there : rank (cond (D.part m p) (D.to q p) (D.to r p)) ≡ rank (D.to r p) = ap rank (cond-false (D.part m p) (D.to q p) (D.to r p) out) in

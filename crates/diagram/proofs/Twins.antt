@@ -73,10 +73,10 @@ module _ (rank : ℕ → ℕ) (D : Diagram) (lawful : Lawful rank D) (sound : So
         let s = found.0 in
         let parts = and_parts (not (eqb s n)) (enabled D M s) found.2 in
         let ne = eqb-false s n (not-true _ parts.0) in
-        let on-s = enabled_tells D M rank lawful s parts.1 in
-        let led = lawful.step_led s on-s.0 in
-        let can : Can D M led.0 = (led.1, subst (Enabled D M) (sym led.2) on-s) in
-        inr (led.0, can, (on.0, waiting_on D M n led.0 on.1 (λ p in'. ap (λ k. D.part k p) led.2 ∙ apart D M n s (λ e. ne (sym e)) on.1 on-s.1 p in'))))
+        let on_s = enabled_tells D M rank lawful s parts.1 in
+        let led = lawful.step_led s on_s.0 in
+        let can : Can D M led.0 = (led.1, subst (Enabled D M) (sym led.2) on_s) in
+        inr (led.0, can, (on.0, waiting_on D M n led.0 on.1 (λ p in'. ap (λ k. D.part k p) led.2 ∙ apart D M n s (λ e. ne (sym e)) on.1 on_s.1 p in'))))
         (λ none.
         inl (record {
           at = M;
@@ -115,19 +115,19 @@ module _ (rank : ℕ → ℕ) (D : Diagram) (lawful : Lawful rank D) (sound : So
         let M = q.at in
         let someone = lawful.step_peopled n q.on.0.0 in
         let s = someone.0 in
-        let s-known = lawful.part_known n s someone.1 in
+        let s_known = lawful.part_known n s someone.1 in
         let at_n : M s ≡ n = q.on.1 s someone.1 in
-        let low-n : rank n < rank D.end = subst (λ k. rank k < rank D.end) at_n (below_end rank D lawful sound M q.reached s s-known (λ e. q.on.0.1 (sym at_n ∙ e))) in
+        let low_n : rank n < rank D.end = subst (λ k. rank k < rank D.end) at_n (below_end rank D lawful sound M q.reached s s_known (λ e. q.on.0.1 (sym at_n ∙ e))) in
         let m = min (rank (M p)) D.parties (λ k. true) (λ k. rank (M k)) p (omega arith) lt refl in
-        let m-low = m.least p lt refl in
-        let m-on = lowest rank D lawful sound M q.reached m.at m.within (λ e. let r : rank (M m.at) ≡ rank D.end = ap rank e in absurd (omega arith)) (λ k l. m.least k l refl) in
-        let m-n : rank (M m.at) ≡ rank n = ap rank (q.alone (M m.at) m-on) in
-        let p-on = lowest rank D lawful sound M q.reached p lt (λ e. let r : rank (M p) ≡ rank D.end = ap rank e in absurd (omega arith)) (λ k l. let h = m.least k l refl in omega arith) in
-        let p-n = q.alone (M p) p-on in
-        absurd (both_ways (D.part n p) out (subst (λ k. D.part k p ≡ true) p-n (waits rank D lawful sound M q.reached p lt).1)))
+        let m_low = m.least p lt refl in
+        let m_on = lowest rank D lawful sound M q.reached m.at m.within (λ e. let r : rank (M m.at) ≡ rank D.end = ap rank e in absurd (omega arith)) (λ k l. m.least k l refl) in
+        let m_n : rank (M m.at) ≡ rank n = ap rank (q.alone (M m.at) m_on) in
+        let p_on = lowest rank D lawful sound M q.reached p lt (λ e. let r : rank (M p) ≡ rank D.end = ap rank e in absurd (omega arith)) (λ k l. let h = m.least k l refl in omega arith) in
+        let p_n = q.alone (M p) p_on in
+        absurd (both_ways (D.part n p) out (subst (λ k. D.part k p ≡ true) p_n (waits rank D lawful sound M q.reached p lt).1)))
         (cases_lt (rank n) (rank (q.at p)))
 
-  module _ (n : ℕ) (start-below : rank 0 ≤ rank n) (higher : (k : ℕ) → rank n < rank k → Two D k → Full D k) where
+  module _ (n : ℕ) (start_below : rank 0 ≤ rank n) (higher : (k : ℕ) → rank n < rank k → Two D k → Full D k) where
     -- a marking after row r of n and more, in which all parties outside a set are still where r sent them
     record Side (r : ℕ) (A : ℕ → Bool) (M : Marking) : Type 0 where
       reached : Leads D first M
@@ -140,37 +140,37 @@ module _ (rank : ℕ → ℕ) (D : Diagram) (lawful : Lawful rank D) (sound : So
     -- the lowest place of the set is the lowest of all
     set_lowest : (r : ℕ) (A : ℕ → Bool) (M : Marking) → Side r A M → (p : ℕ) → p < D.parties → A p ≡ true → ((q : ℕ) → q < D.parties → A q ≡ true → rank (M p) ≤ rank (M q))
         → (q : ℕ) → q < D.parties → rank (M p) ≤ rank (M q)
-    set_lowest r A M side p lt in-A low q q-lt =
-        let m = min (rank (M q)) D.parties (λ k. true) (λ k. rank (M k)) q (omega arith) q-lt refl in
-        let m-low = m.least q q-lt refl in
+    set_lowest r A M side p lt in_A low q q_lt =
+        let m = min (rank (M q)) D.parties (λ k. true) (λ k. rank (M k)) q (omega arith) q_lt refl in
+        let m_low = m.least q q_lt refl in
         ⊎_elim
         (λ less. absurd (lower m.at m.within (λ k l. m.least k l refl) less))
         (λ ge. omega arith)
         (cases_lt (rank (M m.at)) (rank (M p)))
       where
         lower : (s : ℕ) → s < D.parties → ((k : ℕ) → k < D.parties → rank (M s) ≤ rank (M k)) → rank (M s) < rank (M p) → ⊥
-        lower s s-lt s-low less =
+        lower s s_lt s_low less =
             let not_end : M s ≡ D.end → ⊥ = λ e.
             let es : rank (M s) ≡ rank D.end = ap rank e in
             ⊎_elim
             (λ same. let ep : rank (M p) ≡ rank D.end = ap rank same in absurd (omega arith))
             (λ ne. let up = below_end rank D lawful sound M side.reached p lt ne in absurd (omega arith))
             (cases_eq (M p) D.end) in
-            let on = lowest rank D lawful sound M side.reached s s-lt not_end s-low in
-            let out-A : (k : ℕ) → D.part (M s) k ≡ true → A k ≡ false = λ k in'.
+            let on = lowest rank D lawful sound M side.reached s s_lt not_end s_low in
+            let out_A : (k : ℕ) → D.part (M s) k ≡ true → A k ≡ false = λ k in'.
             ⊎_elim
             (λ yes. let le = low k (lawful.part_known (M s) k in') yes in let e : rank (M k) ≡ rank (M s) = ap rank (on.1 k in') in absurd (omega arith))
             (λ no. no)
             (cases_Bool (A k)) in
-            let in-n : (k : ℕ) → D.part (M s) k ≡ true → D.part n k ≡ true = λ k in'.
+            let in_n : (k : ℕ) → D.part (M s) k ≡ true → D.part n k ≡ true = λ k in'.
             ⊎_elim
             (λ yes. yes)
-            (λ no. absurd (both_ways (A k) (out-A k in') (side.outside k (lawful.part_known (M s) k in') no)))
+            (λ no. absurd (both_ways (A k) (out_A k in') (side.outside k (lawful.part_known (M s) k in') no)))
             (cases_Bool (D.part n k)) in
-            let two = no_shortcut r (M s) side.row_used on.0 (not_start n (M s) start-below (side.high s s-lt))
-            (λ k in'. ap (λ x. D.part x k) side.row_of ∙ in-n k in')
-            (λ k in'. sym (side.own k (lawful.part_known (M s) k in') (out-A k in')) ∙ on.1 k in') in
-            let all = higher (M s) (side.high s s-lt) two in
+            let two = no_shortcut r (M s) side.row_used on.0 (not_start n (M s) start_below (side.high s s_lt))
+            (λ k in'. ap (λ x. D.part x k) side.row_of ∙ in_n k in')
+            (λ k in'. sym (side.own k (lawful.part_known (M s) k in') (out_A k in')) ∙ on.1 k in') in
+            let all = higher (M s) (side.high s s_lt) two in
             let e : rank (M p) ≡ rank (M s) = ap rank (on.1 p (all p lt)) in
             absurd (omega arith)
 
@@ -185,10 +185,10 @@ module _ (rank : ℕ → ℕ) (D : Diagram) (lawful : Lawful rank D) (sound : So
           own = λ q lt no.
               ⊎_elim
               (λ yes. absurd (both_ways (A q || D.part (D.step t) q) no (or_left (A q) (D.part (D.step t) q) yes)))
-              (λ out-A.
+              (λ out_A.
               ⊎_elim
               (λ yes. absurd (both_ways (A q || D.part (D.step t) q) no (or_right (A q) (D.part (D.step t) q) yes)))
-              (λ out. stayed D M t q out ∙ side.own q lt out-A)
+              (λ out. stayed D M t q out ∙ side.own q lt out_A)
               (cases_Bool (D.part (D.step t) q)))
               (cases_Bool (A q));
           high = λ q lt.
@@ -221,36 +221,36 @@ module _ (rank : ℕ → ℕ) (D : Diagram) (lawful : Lawful rank D) (sound : So
           let w = min (rank (M tw.someone)) D.parties A (λ k. rank (M k)) tw.someone (omega arith) tw.known tw.is_in in
           let p = w.at in
           let same : M p ≡ N p = tw.agrees p w.within w.passes in
-          let left-low = set_lowest r A M tw.left p w.within w.passes w.least in
-          let right-low = set_lowest s A N tw.right p w.within w.passes (λ q lt in-A.
-          let le = w.least q lt in-A in
+          let left_low = set_lowest r A M tw.left p w.within w.passes w.least in
+          let right_low = set_lowest s A N tw.right p w.within w.passes (λ q lt in_A.
+          let le = w.least q lt in_A in
           let ep : rank (M p) ≡ rank (N p) = ap rank same in
-          let eq : rank (M q) ≡ rank (N q) = ap rank (tw.agrees q lt in-A) in
+          let eq : rank (M q) ≡ rank (N q) = ap rank (tw.agrees q lt in_A) in
           omega arith) in
           ⊎_elim
           (λ ends.
-          let left-ends = end_lowest rank D lawful sound M tw.left.reached (λ q lt. subst (λ k. rank k ≤ rank (M q)) ends (left-low q lt)) in
-          let right-ends = end_lowest rank D lawful sound N tw.right.reached (λ q lt. subst (λ k. rank k ≤ rank (N q)) (sym same ∙ ends) (right-low q lt)) in
+          let left_ends = end_lowest rank D lawful sound M tw.left.reached (λ q lt. subst (λ k. rank k ≤ rank (M q)) ends (left_low q lt)) in
+          let right_ends = end_lowest rank D lawful sound N tw.right.reached (λ q lt. subst (λ k. rank k ≤ rank (N q)) (sym same ∙ ends) (right_low q lt)) in
           inl (λ q in'.
           let lt = lawful.part_known n q in' in
           ⊎_elim
           (λ yes. tw.alike q lt yes in')
-          (λ no. sym (tw.left.own q lt no) ∙ left-ends q lt ∙ sym (right-ends q lt) ∙ tw.right.own q lt no)
+          (λ no. sym (tw.left.own q lt no) ∙ left_ends q lt ∙ sym (right_ends q lt) ∙ tw.right.own q lt no)
           (cases_Bool (A q))))
           (λ ne.
-          let on-left = lowest rank D lawful sound M tw.left.reached p w.within ne left-low in
-          let on-right : Enabled D N (M p) = subst (Enabled D N) (sym same) (lowest rank D lawful sound N tw.right.reached p w.within (λ e. ne (same ∙ e)) right-low) in
-          let led = lawful.step_led (M p) on-left.0 in
+          let on_left = lowest rank D lawful sound M tw.left.reached p w.within ne left_low in
+          let on_right : Enabled D N (M p) = subst (Enabled D N) (sym same) (lowest rank D lawful sound N tw.right.reached p w.within (λ e. ne (same ∙ e)) right_low) in
+          let led = lawful.step_led (M p) on_left.0 in
           let t = led.0 in
-          let can-left : Can D M t = (led.1, subst (Enabled D M) (sym led.2) on-left) in
-          let can-right : Can D N t = (led.1, subst (Enabled D N) (sym led.2) on-right) in
+          let can_left : Can D M t = (led.1, subst (Enabled D M) (sym led.2) on_left) in
+          let can_right : Can D N t = (led.1, subst (Enabled D N) (sym led.2) on_right) in
           let up : rank n < rank (D.step t) = subst (λ k. rank n < rank k) (sym led.2) (tw.left.high p w.within) in
           inr (
             t,
-            can-left,
+            can_left,
             record {
-              left = side_on r A M t tw.left can-left up;
-              right = side_on s A N t tw.right can-right up;
+              left = side_on r A M t tw.left can_left up;
+              right = side_on s A N t tw.right can_right up;
               someone = tw.someone;
               known = tw.known;
               is_in = or_left (A tw.someone) (D.part (D.step t) tw.someone) tw.is_in;
@@ -259,15 +259,15 @@ module _ (rank : ℕ → ℕ) (D : Diagram) (lawful : Lawful rank D) (sound : So
                   (λ in'. moved D M t q in' ∙ sym (moved D N t q in'))
                   (λ out.
                   stayed D M t q out
-                  ∙ ⊎_elim (λ in-A. tw.agrees q lt in-A) (λ in'. absurd (both_ways (D.part (D.step t) q) out in')) (or_cases (A q) (D.part (D.step t) q) yes)
+                  ∙ ⊎_elim (λ in_A. tw.agrees q lt in_A) (λ in'. absurd (both_ways (D.part (D.step t) q) out in')) (or_cases (A q) (D.part (D.step t) q) yes)
                   ∙ sym (stayed D N t q out))
                   (cases_Bool (D.part (D.step t) q));
-              alike = λ q lt yes in-n.
+              alike = λ q lt yes in_n.
                   ⊎_elim
-                  (λ in-A. tw.alike q lt in-A in-n)
-                  (λ out-A.
-                  let in' : D.part (D.step t) q ≡ true = ⊎_elim (λ in-A. absurd (both_ways (A q) out-A in-A)) (λ x. x) (or_cases (A q) (D.part (D.step t) q) yes) in
-                  sym (tw.left.own q lt out-A) ∙ can-left.1.1 q in' ∙ sym (can-right.1.1 q in') ∙ tw.right.own q lt out-A)
+                  (λ in_A. tw.alike q lt in_A in_n)
+                  (λ out_A.
+                  let in' : D.part (D.step t) q ≡ true = ⊎_elim (λ in_A. absurd (both_ways (A q) out_A in_A)) (λ x. x) (or_cases (A q) (D.part (D.step t) q) yes) in
+                  sym (tw.left.own q lt out_A) ∙ can_left.1.1 q in' ∙ sym (can_right.1.1 q in') ∙ tw.right.own q lt out_A)
                   (cases_Bool (A q));
             },
           ))
@@ -289,22 +289,22 @@ module _ (rank : ℕ → ℕ) (D : Diagram) (lawful : Lawful rank D) (sound : So
     first_side : (q : Quiet n) (r : ℕ) → D.used r ≡ true → D.step r ≡ n → Side r (λ p. not (D.part n p)) (take_row D q.at r)
     first_side q r use' of' =
         let can : Can D q.at r = (use', subst (Enabled D q.at) (sym of') q.on) in
-        let in-r : (p : ℕ) → D.part n p ≡ true → D.part (D.step r) p ≡ true = λ p in'. ap (λ k. D.part k p) of' ∙ in' in
-        let out-r : (p : ℕ) → D.part n p ≡ false → D.part (D.step r) p ≡ false = λ p out. ap (λ k. D.part k p) of' ∙ out in
+        let in_r : (p : ℕ) → D.part n p ≡ true → D.part (D.step r) p ≡ true = λ p in'. ap (λ k. D.part k p) of' ∙ in' in
+        let out_r : (p : ℕ) → D.part n p ≡ false → D.part (D.step r) p ≡ false = λ p out. ap (λ k. D.part k p) of' ∙ out in
         record {
           reached = reach q.at r q.reached can;
           row_used = use';
           row_of = of';
           outside = λ p lt out. ap not out;
-          own = λ p lt no. moved D q.at r p (in-r p (not-false _ no));
+          own = λ p lt no. moved D q.at r p (in_r p (not-false _ no));
           high = λ p lt.
               ⊎_elim
               (λ in'.
-              let more = lawful.row_rises r p use' (in-r p in') in
-              let e : rank (take_row D q.at r p) ≡ rank (D.to r p) = ap rank (moved D q.at r p (in-r p in')) in
+              let more = lawful.row_rises r p use' (in_r p in') in
+              let e : rank (take_row D q.at r p) ≡ rank (D.to r p) = ap rank (moved D q.at r p (in_r p in')) in
               let f : rank (D.step r) ≡ rank n = ap rank of' in
               omega arith)
-              (λ out. subst (λ k. rank n < rank k) (sym (stayed D q.at r p (out-r p out))) (above n q p lt out))
+              (λ out. subst (λ k. rank n < rank k) (sym (stayed D q.at r p (out_r p out))) (above n q p lt out))
               (cases_Bool (D.part n p));
         }
 
@@ -336,8 +336,8 @@ module _ (rank : ℕ → ℕ) (D : Diagram) (lawful : Lawful rank D) (sound : So
       let alive = sound.no_dead_step n inner in
       let q = quiet n top alive.0 alive.1 alive.2 (omega arith) in
       let someone = lawful.step_peopled n inner.0 in
-      let start-below : rank 0 ≤ rank n = subst (λ k. rank 0 ≤ rank k) (alive.2.1 someone.0 someone.1) (start_lowest rank D lawful alive.0 alive.1 someone.0) in
-      let alike = rows_alike n start-below higher q two p lt out in
+      let start_below : rank 0 ≤ rank n = subst (λ k. rank 0 ≤ rank k) (alive.2.1 someone.0 someone.1) (start_lowest rank D lawful alive.0 alive.1 someone.0) in
+      let alike = rows_alike n start_below higher q two p lt out in
       absurd (no_merge two.one two.other two.one_used two.other_used two.differ (two.one_of ∙ sym two.other_of)
       (λ k in'. alike k (ap (λ x. D.part x k) (sym two.one_of) ∙ in'))))
       (cases_Bool (D.part n p))
@@ -350,5 +350,5 @@ module _ (rank : ℕ → ℕ) (D : Diagram) (lawful : Lawful rank D) (sound : So
 
   -- so a step with two outcomes has all parties
   pub all_full : NoMerge D → (d n : ℕ) → greatest_rank rank D ≤ d + rank n → Two D n → Full D n
-  all_full no_merge zero n le two = full_at no_merge n (λ k up two-k. let b = rank_bounded k two-k in absurd (omega arith)) two
-  all_full no_merge (suc d) n le two = full_at no_merge n (λ k up two-k. all_full no_merge d k (omega arith) two-k) two
+  all_full no_merge zero n le two = full_at no_merge n (λ k up two_k. let b = rank_bounded k two_k in absurd (omega arith)) two
+  all_full no_merge (suc d) n le two = full_at no_merge n (λ k up two_k. all_full no_merge d k (omega arith) two_k) two

@@ -59,17 +59,17 @@ module _ (rank : ℕ → ℕ) (D : Diagram) (lawful : Lawful rank D) where
 
     sends : (n : ℕ) → Inner D n → Full D n → (r : ℕ) → D.used r ≡ true → D.step r ≡ n → Sends n r
     unfolding Sends
-    sends n in-n all r use' of' =
-        let alive = sound.no_dead_step n in-n in
+    sends n in_n all r use' of' =
+        let alive = sound.no_dead_step n in_n in
         let X = alive.0 in
         let can : Can D X r = (use', subst (Enabled D X) (sym of') alive.2) in
         let M : Marking = take_row D X r in
         let reached : Leads D first M = joined D alive.1 (r ∷ [], go can stop) in
-        let in-r : (p : ℕ) → p < D.parties → D.part (D.step r) p ≡ true = λ p lt. ap (λ k. D.part k p) of' ∙ all p lt in
-        let goes : (p : ℕ) → p < D.parties → M p ≡ D.to r p = λ p lt. moved D X r p (in-r p lt) in
-        let someone = lawful.step_peopled n in-n.0 in
-        let s-lt = lawful.part_known n someone.0 someone.1 in
-        let w = min (rank (M someone.0)) D.parties (λ k. true) (λ k. rank (M k)) someone.0 (omega arith) s-lt refl in
+        let in_r : (p : ℕ) → p < D.parties → D.part (D.step r) p ≡ true = λ p lt. ap (λ k. D.part k p) of' ∙ all p lt in
+        let goes : (p : ℕ) → p < D.parties → M p ≡ D.to r p = λ p lt. moved D X r p (in_r p lt) in
+        let someone = lawful.step_peopled n in_n.0 in
+        let s_lt = lawful.part_known n someone.0 someone.1 in
+        let w = min (rank (M someone.0)) D.parties (λ k. true) (λ k. rank (M k)) someone.0 (omega arith) s_lt refl in
         let p = w.at in
         let low : (q : ℕ) → q < D.parties → rank (M p) ≤ rank (M q) = λ q lt. w.least q lt refl in
         ⊎_elim
@@ -78,13 +78,13 @@ module _ (rank : ℕ → ℕ) (D : Diagram) (lawful : Lawful rank D) where
         inl (λ q lt. sym (goes q lt) ∙ at q lt))
         (λ ne.
         let on = lowest rank D lawful sound M reached p w.within ne low in
-        let up = lawful.row_rises r p use' (in-r p w.within) in
+        let up = lawful.row_rises r p use' (in_r p w.within) in
         let e : rank (M p) ≡ rank (D.to r p) = ap rank (goes p w.within) in
         let f : rank (D.step r) ≡ rank n = ap rank of' in
         let above : rank n < rank (M p) = omega arith in
-        let start-below : rank 0 ≤ rank n = subst (λ k. rank 0 ≤ rank k) (alive.2.1 someone.0 someone.1) (start_lowest rank D lawful X alive.1 someone.0) in
+        let start_below : rank 0 ≤ rank n = subst (λ k. rank 0 ≤ rank k) (alive.2.1 someone.0 someone.1) (start_lowest rank D lawful X alive.1 someone.0) in
         let two = no_shortcut rank D lawful nothing r (M p) use' on.0 (λ z. let g : rank (M p) ≡ rank 0 = ap rank z in absurd (omega arith))
-        (λ k in'. in-r k (lawful.part_known (M p) k in'))
+        (λ k in'. in_r k (lawful.part_known (M p) k in'))
         (λ k in'. sym (goes k (lawful.part_known (M p) k in')) ∙ on.1 k in') in
         inr (M p, two, full (M p) two, above))
         (cases_eq (M p) D.end)
@@ -102,34 +102,34 @@ module _ (rank : ℕ → ℕ) (D : Diagram) (lawful : Lawful rank D) where
 
     all_to_end : (d n : ℕ) → greatest_rank rank D ≤ d + rank n → Inner D n → Full D n → (r : ℕ) → D.used r ≡ true → D.step r ≡ n → (p : ℕ) → p < D.parties → D.to r p ≡ D.end
     unfolding Sends
-    all_to_end zero n le in-n all r use' of' =
+    all_to_end zero n le in_n all r use' of' =
         ⊎_elim
         (λ ends. ends)
         (λ more.
         let up = more.3 in
         let b = rank_bounded rank D lawful sound (no_shortcut rank D lawful nothing) more.0 more.1 in
         absurd (omega arith))
-        (sends n in-n all r use' of')
-    all_to_end (suc d) n le in-n all r use' of' =
+        (sends n in_n all r use' of')
+    all_to_end (suc d) n le in_n all r use' of' =
         ⊎_elim
         (λ ends. ends)
         (λ more.
         let up = more.3 in
         absurd (two_to_end more.0 more.1 (all_to_end d more.0 (omega arith) (inner_of more.0 more.1) more.2)))
-        (sends n in-n all r use' of')
+        (sends n in_n all r use' of')
 
     straight : Straight
     straight t use' of' = all_to_end (greatest_rank rank D) 0 (omega arith) lawful.start_inner lawful.start_full t use' of'
 
     only_start : (n : ℕ) → Inner D n → n ≡ 0
-    only_start n in-n =
-        let alive = sound.no_dead_step n in-n in
-        let someone = lawful.step_peopled n in-n.0 in
+    only_start n in_n =
+        let alive = sound.no_dead_step n in_n in
+        let someone = lawful.step_peopled n in_n.0 in
         let p = someone.0 in
         let at = alive.2.1 p someone.1 in
         ⊎_elim
         (λ same. sym at ∙ sym (ap (λ M. M p) same))
-        (λ ends. absurd (in-n.1 (sym at ∙ ends p (lawful.part_known n p someone.1))))
+        (λ ends. absurd (in_n.1 (sym at ∙ ends p (lawful.part_known n p someone.1))))
         (none_or_one straight alive.1.1)
 
     sound_is_one : OneRowLeft D

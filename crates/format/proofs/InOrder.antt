@@ -34,9 +34,9 @@ record RightOutcome (s o : ℕ) (rec : Bytes) : Type 0 where
 
 module _ (ahead : Ahead) (rec : Bytes) where
   step_tells : kind_of rec ≡ 1 → wrong_kind ahead (kind_of rec) ≡ false → (is_step rec && wrong_step ahead (step_of rec) (mask_of rec) (unused_of rec)) ≡ false → RightStep ahead.steps ahead.outcomes rec
-  step_tells kind kind-right right =
+  step_tells kind kind_right right =
       let step = eq-eqb (kind_of rec) 1 kind in
-      let later = (or_parts (ltb 2 (kind_of rec)) (is_step rec && ltb 0 ahead.outcomes) kind-right).1 in
+      let later = (or_parts (ltb 2 (kind_of rec)) (is_step rec && ltb 0 ahead.outcomes) kind_right).1 in
       let none = ltb-false 0 ahead.outcomes (sym (and_skip (is_step rec) (ltb 0 ahead.outcomes) step) ∙ later) in
       let parts = or_parts (not (eqb (step_of rec) ahead.steps)) _ (sym (and_skip (is_step rec) (wrong_step ahead (step_of rec) (mask_of rec) (unused_of rec)) step) ∙ right) in
       let place = eqb-true (step_of rec) ahead.steps (not-false _ parts.0) in
@@ -59,14 +59,14 @@ module _ (ahead : Ahead) (rec : Bytes) where
   passes_tell : is_blank rec ≡ false → first_failing (record_checks ahead rec) ≡ None → RightStep ahead.steps ahead.outcomes rec ⊎ RightOutcome ahead.steps ahead.outcomes rec
   passes_tell some none =
       let checks = none_first _ (named ahead rec ++ last_two ahead rec) (sym (ap first_failing (cond-false (is_blank rec) [] _ some)) ∙ none) in
-      let kind-right : wrong_kind ahead (kind_of rec) ≡ false = checks.0 in
-      let outcome-check = record_check 9 ahead.records (is_outcome rec && wrong_outcome ahead (step_of rec)) in
-      let two = none_first _ (outcome-check ∷ []) (none_parts (named ahead rec) (last_two ahead rec) checks.1).1 in
-      let small = ltb-false 2 (kind_of rec) (or_parts (ltb 2 (kind_of rec)) _ kind-right).0 in
+      let kind_right : wrong_kind ahead (kind_of rec) ≡ false = checks.0 in
+      let outcome_check = record_check 9 ahead.records (is_outcome rec && wrong_outcome ahead (step_of rec)) in
+      let two = none_first _ (outcome_check ∷ []) (none_parts (named ahead rec) (last_two ahead rec) checks.1).1 in
+      let small = ltb-false 2 (kind_of rec) (or_parts (ltb 2 (kind_of rec)) _ kind_right).0 in
       let other = eqb-false (kind_of rec) 0 some in
       ⊎_elim
-      (λ step. inl (step_tells (eqb-true (kind_of rec) 1 step) kind-right two.0))
-      (λ outcome. let no_step = eqb-false (kind_of rec) 1 outcome in inr (outcome_tells (omega arith) (none_first outcome-check [] two.1).0))
+      (λ step. inl (step_tells (eqb-true (kind_of rec) 1 step) kind_right two.0))
+      (λ outcome. let no_step = eqb-false (kind_of rec) 1 outcome in inr (outcome_tells (omega arith) (none_first outcome_check [] two.1).0))
       (cases_Bool (is_step rec))
 
 abbrev blank_at : Bytes → ℕ → Bool

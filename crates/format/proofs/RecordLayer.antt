@@ -55,9 +55,9 @@ module _ (ahead : Ahead) (rec : Bytes) where
   pub name_fits : is_blank rec ≡ false → first_failing (record_checks ahead rec) ≡ None → name_length rec ≤ 13
   name_fits some none =
       let checks = none_first _ (named ++ last_two) (sym (ap first_failing (cond-false (is_blank rec) [] _ some)) ∙ none) in
-      let named-right = (none_parts named last_two checks.1).0 in
+      let named_right = (none_parts named last_two checks.1).0 in
       let long = record_check 7 ahead.records (wrong_name (name_length rec) (name_field rec)) in
-      let passed = (none_first long [] (none_first (record_check 6 ahead.records (no_name (name_length rec))) (long ∷ []) named-right).1).0 in
+      let passed = (none_first long [] (none_first (record_check 6 ahead.records (no_name (name_length rec))) (long ∷ []) named_right).1).0 in
       ltb-false 13 (name_length rec) (or_parts (ltb 13 (name_length rec)) (some_below 13 (λ i. wrong_name_byte (name_length rec) i (byte (name_field rec) i))) passed).0
 
 -- what lies ahead, one record further

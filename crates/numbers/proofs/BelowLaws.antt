@@ -105,10 +105,10 @@ first_tells (suc n) p =
     (λ none.
     cond_both (p n) _ _ (Least (suc n) p)
     (λ here. record { within = omega arith; before = none_at n p none; passes = λ lt. here })
-    (λ not-here.
+    (λ not_here.
     record {
       within = omega arith;
-      before = λ k lt. ⊎_elim (λ same. ap p same ∙ not-here) (⊎_elim (λ l. none_at n p none k l) (λ g. absurd (omega arith))) (cases_order k n);
+      before = λ k lt. ⊎_elim (λ same. ap p same ∙ not_here) (⊎_elim (λ l. none_at n p none k l) (λ g. absurd (omega arith))) (cases_order k n);
       passes = λ lt. absurd (omega arith);
     }))
 
