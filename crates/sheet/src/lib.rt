@@ -1,4 +1,4 @@
-// A diagram in the knee: the sheet, the shelf of its labels, and loading both from a setup file. No heap.
+// A diagram in the knee: the sheet, the shelf of its labels, and what a setup file says of both, as far as it is begun. No heap.
 #![tactic(auto)]
 
 mod draft;
