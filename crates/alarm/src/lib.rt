@@ -2,7 +2,7 @@
 // Its labels are not one to one with its values: any loudness above 0 means the same.
 #![tactic(auto)]
 
-ghost use Rattle.std.specs.Prelude.{◌≡◌, Bool, nat_lt};
+ghost use Rattle.std.specs.Prelude.{Bool, nat_lt};
 ghost use Rattle.alarm.specs.AlarmAlgebra.{alarm_algebra};
 ghost use Rattle.alarm.specs.AlarmLaws.{alarm_laws};
 

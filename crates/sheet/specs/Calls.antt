@@ -1,4 +1,4 @@
--- What load and label answer and leave.
+-- What load and label answer and leave. Both calls are yet to come, and no contract names what is only for them.
 use Rattle.std.specs.Prelude.{◌≡◌, ℕ, Bool, cond, not, ◌||◌, List, [], ◌∷◌, ◌++◌, is_some, Some, None, Option, nat_le, nat_lt, slice_index_or}
 use Rattle.analysis.specs.Algebra.{Algebra}
 use Rattle.format.specs.Layout.{Bytes}

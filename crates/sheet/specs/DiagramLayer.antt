@@ -1,4 +1,5 @@
 -- Layer 3: each refusal's sentence over the diagram in a file's bytes, and the checks in the order in which they run.
+-- The checks as code are yet to come, and no contract names their list.
 use Rattle.std.specs.Prelude.{ℕ, ◌+◌, ◌-◌, ◌^◌, Bool, cond, not, ◌&&◌, ◌||◌, List, [], ◌∷◌, ◌++◌, is_some, None, Option, ◌==◌, nat_eq, nat_lt, slice_index, slice_index_or}
 use Rattle.numbers.specs.Below.{some_below, each_below}
 use Rattle.numbers.specs.Bits.{bit}

@@ -1,4 +1,4 @@
--- The labels on a shelf.
+-- The labels on a shelf, for the calls that are yet to come.
 use Rattle.std.specs.Prelude.{◌≡◌, ℕ, ◌<◌, List, length, Option, MatchOption, slice_index_or}
 
 -- Some places of a shelf are written: each of these then holds a label of the value given, and every other keeps its label.

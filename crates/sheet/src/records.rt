@@ -1,6 +1,6 @@
 // What the diagram layer takes out of a record.
 ghost use Rattle.std.specs.Prelude.{◌≡◌, ◌<◌, length};
-ghost use Rattle.format.specs.Layout.{record_count, record_of, step_of, mask_of};
+ghost use Rattle.format.specs.Layout.{record_count, record_of, mask_of};
 ghost use Rattle.sheet.specs.FileDiagram.{row_in, label_bytes};
 
 use analysis::parties::Parties;

@@ -1,6 +1,6 @@
 // The labels of a sheet's rows, in memory that the caller lends.
-ghost use Rattle.std.specs.Prelude.{◌≡◌, cond, length, slice_set};
-ghost use Rattle.std.specs.Slice.{IsGetResult};
+ghost use Rattle.std.specs.Prelude.{◌≡◌, length, slice_set};
+ghost use Rattle.std.specs.Slice.{IsItemAt};
 
 // A place for the label of each row; a place is written only with its row.
 #[derive(Drop)]
@@ -26,7 +26,7 @@ impl<'a, K: Drop> Shelf<'a, K> {
 
     // The label of a row; none beyond the last place.
     pub fn get(&self, row: usize) -> Option<&K>
-        ensures { IsGetResult self.now.places.now row row result }
+        ensures { IsItemAt self.now.places.now row result }
     {
         self.places.get(row)
     }
