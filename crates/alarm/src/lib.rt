@@ -12,7 +12,7 @@ use analysis::parties::Parties;
 // Charges above this many microampere-hours sound the alarm.
 const LOUD: u32 = 1000;
 
-#[derive(Clone, Copy)]
+#[derive(Clone, Copy, Debug)]
 pub struct Alarm {
     pub loudness: u8,
 }
@@ -51,7 +51,8 @@ impl Kind for Alarm {
     }
 
     fn make(bytes: &[u8; 32], _parties: Parties) -> Alarm {
-        let most = u32::from_be_bytes([bytes[4], bytes[5], bytes[6], bytes[7]]);
+        let [_, _, _, _, b4, b5, b6, b7, ..] = *bytes;
+        let most = u32::from_be_bytes([b4, b5, b6, b7]);
         let loudness = if most > LOUD { 9 } else { 0 };
         Alarm { loudness }
     }

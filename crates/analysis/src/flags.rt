@@ -2,6 +2,7 @@
 ghost use Rattle.std.specs.Prelude.{◌^◌, ◌<◌};
 
 pub mod as_kind;
+mod pair;
 
 // A relation over the eight values of three flags, where bit i of a value is flag i, owned by party i.
 // Bit 8 × v + w says that v may become w.

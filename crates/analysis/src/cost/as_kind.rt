@@ -1,12 +1,14 @@
 // Cost as a kind of label.
 ghost use Rattle.std.specs.Prelude.{◌≡◌};
+ghost use Rattle.std.specs.Bool.{then_some};
 ghost use Rattle.analysis.specs.declared.cost.Cost.{Cost};
-ghost use Rattle.analysis.specs.CostAlgebra.{cost_algebra, capped};
+ghost use Rattle.analysis.specs.CostAlgebra.{cost_algebra, capped, suitable};
 ghost use Rattle.analysis.specs.CostLaws.{cost_laws};
+ghost use Rattle.analysis.specs.LabelBytes.{least_in, most_in};
 
 use crate::cost::Cost;
 use crate::kind::Kind;
-use crate::label_bytes::number32;
+use crate::label_bytes::bytes_at;
 use crate::parties::Parties;
 
 const LIMIT: u32 = 1_000_000;
@@ -24,6 +26,15 @@ fn capped(least: u32, most: u32) -> Cost
         least: least.min(LIMIT),
         most: most.min(LIMIT),
     }
+}
+
+// The label in the label bytes, if they are suitable.
+fn spelled(bytes: &[u8; 32]) -> Option<Cost>
+    ensures { result ≡ then_some (suitable bytes.now) (capped (least_in bytes.now) (most_in bytes.now)) }
+{
+    let least = u32::from_be_bytes(bytes_at(bytes, LEAST_AT));
+    let most = u32::from_be_bytes(bytes_at(bytes, MOST_AT));
+    (least <= most && most <= LIMIT).then(|| capped(least, most))
 }
 
 impl Kind for Cost {
@@ -52,17 +63,11 @@ impl Kind for Cost {
     }
 
     fn suits(bytes: &[u8; 32], _parties: Parties) -> bool {
-        let least = number32(bytes, LEAST_AT);
-        let most = number32(bytes, MOST_AT);
-        least <= most && most <= LIMIT
+        spelled(bytes).is_some()
     }
 
-    fn make(bytes: &[u8; 32], parties: Parties) -> Cost {
-        if <Cost as Kind>::suits(bytes, parties) {
-            capped(number32(bytes, LEAST_AT), number32(bytes, MOST_AT))
-        } else {
-            <Cost as Kind>::unit()
-        }
+    fn make(bytes: &[u8; 32], _parties: Parties) -> Cost {
+        spelled(bytes).unwrap_or(<Cost as Kind>::unit())
     }
 
     fn tell(&self) -> (u64, u64) {

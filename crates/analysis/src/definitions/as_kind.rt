@@ -1,14 +1,15 @@
 // Definitions as a kind of label.
-ghost use Rattle.std.specs.Prelude.{◌≡◌, ◌<◌, not, bit_and, bit_or};
+ghost use Rattle.std.specs.Prelude.{◌≡◌, ◌<◌, bit_and, bit_or};
+ghost use Rattle.std.specs.Bool.{then_some};
 ghost use Rattle.analysis.specs.declared.definitions.Definitions.{Definitions};
 ghost use Rattle.numbers.specs.Bits.{bit};
-ghost use Rattle.analysis.specs.DefinitionsAlgebra.{definitions_algebra, all_kept, strays, confined, spelled};
+ghost use Rattle.analysis.specs.DefinitionsAlgebra.{definitions_algebra, all_kept, confined, spelled};
 ghost use Rattle.analysis.specs.Parties.{members};
 ghost use Rattle.analysis.specs.DefinitionsLaws.{definitions_laws};
 
 use crate::definitions::Definitions;
 use crate::kind::Kind;
-use crate::label_bytes::number64;
+use crate::label_bytes::bytes_at;
 use crate::parties::Parties;
 
 const SITES: u8 = 64;
@@ -38,34 +39,24 @@ fn has(sites: u64, site: u8) -> bool
     (sites >> site) % 2 == 1
 }
 
-// Whether the site's owner is in the set, or else the site is left as it was.
-fn site_right(label: Definitions, site: u8, parties: Parties) -> bool
-    requires { site < 64 }
-    ensures { result ≡ not (strays label (members parties) site) }
-{
-    parties.has(site / SITES_OF_PARTY) || has(label.keep, site) && !has(label.gens, site)
-}
-
-// Whether the label belongs to the set.
-fn sites_right(label: Definitions, parties: Parties) -> bool
+// Whether each site's owner is in the set, or else the site is left as it was.
+fn confined(label: Definitions, parties: Parties) -> bool
     ensures { result ≡ confined label (members parties) }
 {
-    for site in 0..SITES {
-        if !site_right(label, site, parties) {
-            return false;
-        }
-    }
-    true
+    (0..SITES).all(|site| {
+        parties.has(site / SITES_OF_PARTY) || has(label.keep, site) && !has(label.gens, site)
+    })
 }
 
-// The label in the label bytes, whether it suits a set or not.
-fn spelled(bytes: &[u8; 32]) -> Definitions
-    ensures { result ≡ spelled bytes.now }
+// The label in the label bytes, if it is confined to the set.
+fn spelled(bytes: &[u8; 32], parties: Parties) -> Option<Definitions>
+    ensures { result ≡ then_some (confined (spelled bytes.now) (members parties)) (spelled bytes.now) }
 {
-    Definitions {
-        keep: number64(bytes, KEEP_AT),
-        gens: number64(bytes, GENS_AT),
-    }
+    let label = Definitions {
+        keep: u64::from_be_bytes(bytes_at(bytes, KEEP_AT)),
+        gens: u64::from_be_bytes(bytes_at(bytes, GENS_AT)),
+    };
+    confined(label, parties).then_some(label)
 }
 
 // The sites defined first and then kept, and those defined then.
@@ -103,20 +94,15 @@ impl Kind for Definitions {
     }
 
     fn belongs(&self, parties: Parties) -> bool {
-        sites_right(*self, parties)
+        confined(*self, parties)
     }
 
     fn suits(bytes: &[u8; 32], parties: Parties) -> bool {
-        sites_right(spelled(bytes), parties)
+        spelled(bytes, parties).is_some()
     }
 
     fn make(bytes: &[u8; 32], parties: Parties) -> Definitions {
-        let label = spelled(bytes);
-        if sites_right(label, parties) {
-            label
-        } else {
-            all_kept()
-        }
+        spelled(bytes, parties).unwrap_or(all_kept())
     }
 
     fn tell(&self) -> (u64, u64) {

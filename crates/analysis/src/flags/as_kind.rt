@@ -1,19 +1,18 @@
 // Flags as a kind of label.
-ghost use Rattle.std.specs.Prelude.{◌≡◌, ◌/◌, ◌%◌, ◌<◌, not, ◌&&◌};
+ghost use Rattle.std.specs.Prelude.{◌≡◌, ◌/◌, ◌%◌, true, false, MatchOption};
 ghost use Rattle.numbers.specs.Below.{some_below};
-ghost use Rattle.numbers.specs.Bits.{from_bits};
 ghost use Rattle.analysis.specs.Parties.{members};
 ghost use Rattle.analysis.specs.declared.flags.Flags.{Flags};
-ghost use Rattle.analysis.specs.FlagsAlgebra.{may, through, same_flag, flipped, strays, stays_within, flags_algebra};
+ghost use Rattle.analysis.specs.FlagsAlgebra.{may, through, strays, stays_within, flags_algebra};
 ghost use Rattle.analysis.specs.FlagsMeaning.{CompositionIsRelational, WorkedComposition};
 ghost use Rattle.analysis.specs.FlagsLaws.{flags_laws};
+ghost use Rattle.analysis.specs.LabelBytes.{relation_in};
 
 use crate::flags::Flags;
+use crate::flags::pair::{Flag, Pair, VALUES};
 use crate::kind::Kind;
-use crate::label_bytes::number64;
+use crate::label_bytes::bytes_at;
 use crate::parties::Parties;
-
-const VALUES: u8 = 8;
 
 const PAIRS: u8 = 64;
 
@@ -25,101 +24,49 @@ const RELATION_AT: usize = 8;
 // Each value may become itself.
 const SAME: u64 = 0x8040_2010_0804_0201;
 
-fn may(relation: u64, v: u8, w: u8) -> bool
-    requires { (v < 8) × (w < 8) }
-    ensures { result ≡ may relation v w }
-{
-    (relation >> (VALUES * v + w)) % 2 == 1
-}
-
-// Whether v may become u by x, and u then w by y.
-fn links(x: u64, y: u64, v: u8, u: u8, w: u8) -> bool
-    requires { (v < 8) × ((u < 8) × (w < 8)) }
-    ensures { result ≡ (may x v u && may y u w) }
-{
-    may(x, v, u) && may(y, u, w)
-}
-
-// Whether v may become w by x and then y.
-fn through(x: u64, y: u64, v: u8, w: u8) -> bool
-    requires { (v < 8) × (w < 8) }
-    ensures { result ≡ through x y v w }
-{
-    for u in 0..VALUES {
-        if links(x, y, v, u, w) {
-            return true;
-        }
+impl Flags {
+    fn may(self, pair: Pair) -> bool
+        ensures { result ≡ may self.relation pair.from pair.to }
+    {
+        (self.relation >> (VALUES * pair.from + pair.to)) % 2 == 1
     }
-    false
-}
 
-// The composition of two relations.
-fn composed(x: u64, y: u64) -> u64
-    ensures { result ≡ from_bits 64 (λ k. through x y (k / 8) (k % 8)) }
-{
-    let mut relation = 0;
-    for k in 0..PAIRS {
-        if through(x, y, k / VALUES, k % VALUES) {
-            relation |= 1 << k;
-        }
+    // Whether the one value may become the other by this and then `other`.
+    fn through(self, other: Flags, pair: Pair) -> bool
+        ensures { result ≡ through self.relation other.relation pair.from pair.to }
+    {
+        (0..VALUES).any(|u| self.may(Pair::new(pair.from, u)) && other.may(Pair::new(u, pair.to)))
     }
-    relation
-}
 
-fn same_flag(flag: u8, v: u8, w: u8) -> bool
-    requires { flag < 3 }
-    ensures { result ≡ same_flag flag v w }
-{
-    (v >> flag) % 2 == (w >> flag) % 2
-}
-
-fn flipped(flag: u8, v: u8) -> u8
-    requires { (flag < 3) × (v < 8) }
-    ensures value { result ≡ flipped flag v }
-    ensures bound { result < 8 }
-{
-    v ^ (1 << flag)
-}
-
-// Whether the pair is there, but changes the flag or depends on it.
-fn strays(relation: u64, flag: u8, v: u8, w: u8) -> bool
-    requires { (flag < 3) × ((v < 8) × (w < 8)) }
-    ensures { result ≡ strays relation flag v w }
-{
-    may(relation, v, w)
-        && !(same_flag(flag, v, w) && may(relation, flipped(flag, v), flipped(flag, w)))
-}
-
-fn some_pair_strays(relation: u64, flag: u8) -> bool
-    requires { flag < 3 }
-    ensures { result ≡ some_below 64 (λ k. strays relation flag (k / 8) (k % 8)) }
-{
-    for k in 0..PAIRS {
-        if strays(relation, flag, k / VALUES, k % VALUES) {
-            return true;
-        }
+    // Whether the pair is there, but changes the flag or depends on it.
+    fn strays(self, flag: Flag, pair: Pair) -> bool
+        ensures { result ≡ strays self.relation flag.number pair.from pair.to }
+    {
+        self.may(pair) && !(pair.keeps(flag) && self.may(pair.flipped(flag)))
     }
-    false
-}
 
-// Whether the flag is of a party outside the set, and some pair strays at it.
-fn strays_outside(relation: u64, flag: u8, parties: Parties) -> bool
-    requires { flag < 3 }
-    ensures { result ≡ (not (members parties flag) && some_below 64 (λ k. strays relation flag (k / 8) (k % 8))) }
-{
-    !parties.has(flag) && some_pair_strays(relation, flag)
-}
-
-// Whether the relation concerns only flags of the set.
-fn stays_within(relation: u64, parties: Parties) -> bool
-    ensures { result ≡ stays_within relation (members parties) }
-{
-    for flag in 0..FLAGS {
-        if strays_outside(relation, flag, parties) {
-            return false;
-        }
+    fn concerns(self, flag: Flag) -> bool
+        ensures { result ≡ some_below 64 (λ k. strays self.relation flag.number (k / 8) (k % 8)) }
+    {
+        (0..PAIRS).any(|k| self.strays(flag, Pair::at(k)))
     }
-    true
+
+    // Whether the relation concerns only flags of the set.
+    fn stays_within(self, parties: Parties) -> bool
+        ensures { result ≡ stays_within self.relation (members parties) }
+    {
+        (0..FLAGS).all(|number| parties.has(number) || !self.concerns(Flag::new(number)))
+    }
+}
+
+// The label in the label bytes, if it stays within the set.
+fn spelled(bytes: &[u8; 32], parties: Parties) -> Option<Flags>
+    ensures { MatchOption result (stays_within (relation_in bytes.now) (members parties) ≡ false) (λ x. (stays_within (relation_in bytes.now) (members parties) ≡ true) × (x.relation ≡ relation_in bytes.now)) }
+{
+    let label = Flags {
+        relation: u64::from_be_bytes(bytes_at(bytes, RELATION_AT)),
+    };
+    label.stays_within(parties).then_some(label)
 }
 
 impl Kind for Flags {
@@ -136,9 +83,10 @@ impl Kind for Flags {
     }
 
     fn then(&self, other: &Flags) -> Flags {
-        Flags {
-            relation: composed(self.relation, other.relation),
-        }
+        let relation = (0..PAIRS)
+            .filter(|k| self.through(*other, Pair::at(*k)))
+            .fold(0, |relation, k| relation | 1 << k);
+        Flags { relation }
     }
 
     fn either(&self, other: &Flags) -> Flags {
@@ -148,19 +96,15 @@ impl Kind for Flags {
     }
 
     fn belongs(&self, parties: Parties) -> bool {
-        stays_within(self.relation, parties)
+        self.stays_within(parties)
     }
 
     fn suits(bytes: &[u8; 32], parties: Parties) -> bool {
-        stays_within(number64(bytes, RELATION_AT), parties)
+        spelled(bytes, parties).is_some()
     }
 
     fn make(bytes: &[u8; 32], parties: Parties) -> Flags {
-        let relation = number64(bytes, RELATION_AT);
-        if !stays_within(relation, parties) {
-            return <Flags as Kind>::unit();
-        }
-        Flags { relation }
+        spelled(bytes, parties).unwrap_or(<Flags as Kind>::unit())
     }
 
     fn tell(&self) -> (u64, u64) {
