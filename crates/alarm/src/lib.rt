@@ -37,9 +37,7 @@ impl Kind for Alarm {
     }
 
     fn either(&self, other: &Alarm) -> Alarm {
-        Alarm {
-            loudness: self.loudness.max(other.loudness),
-        }
+        self.then(other)
     }
 
     fn belongs(&self, _parties: Parties) -> bool {
@@ -58,6 +56,6 @@ impl Kind for Alarm {
     }
 
     fn tell(&self) -> (u64, u64) {
-        if self.loudness > 0 { (1, 0) } else { (0, 0) }
+        (u64::from(self.loudness > 0), 0)
     }
 }

@@ -1,2 +1,1 @@
 pub mod LabelBytes
-pub mod Ranges

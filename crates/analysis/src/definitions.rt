@@ -5,7 +5,7 @@ pub mod as_kind;
 
 // A bit for each of 64 definition sites: `keep` has the sites whose definitions from before survive, and `gens`, the gen
 // set, those that are defined (`gen` is a keyword). Site b is owned by party b / 8.
-#[derive(Clone, Copy)]
+#[derive(Clone, Copy, Debug, PartialEq, Eq)]
 pub struct Definitions {
     keep: u64,
     gens: u64,

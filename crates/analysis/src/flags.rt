@@ -6,7 +6,7 @@ mod pair;
 
 // A relation over the eight values of three flags, where bit i of a value is flag i, owned by party i.
 // Bit 8 × v + w says that v may become w.
-#[derive(Clone, Copy)]
+#[derive(Clone, Copy, Debug, PartialEq, Eq)]
 pub struct Flags {
     relation: u64,
     ghost within: { relation < 2 ^ 64 },

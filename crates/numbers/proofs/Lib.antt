@@ -1,2 +1,3 @@
 pub mod BelowLaws
 pub mod BitLaws
+pub mod RangeLaws

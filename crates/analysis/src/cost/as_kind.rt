@@ -18,23 +18,25 @@ const LEAST_AT: usize = 0;
 
 const MOST_AT: usize = 4;
 
-// Both halves, each stopping at the limit.
-fn capped(least: u32, most: u32) -> Cost
-    ensures { result ≡ capped least most }
-{
-    Cost {
-        least: least.min(LIMIT),
-        most: most.min(LIMIT),
+impl Cost {
+    // Both halves, each stopping at the limit.
+    fn capped(least: u32, most: u32) -> Cost
+        ensures { result ≡ capped least most }
+    {
+        Cost {
+            least: least.min(LIMIT),
+            most: most.min(LIMIT),
+        }
     }
-}
 
-// The label in the label bytes, if they are suitable.
-fn spelled(bytes: &[u8; 32]) -> Option<Cost>
-    ensures { result ≡ then_some (suitable bytes.now) (capped (least_in bytes.now) (most_in bytes.now)) }
-{
-    let least = u32::from_be_bytes(bytes_at(bytes, LEAST_AT));
-    let most = u32::from_be_bytes(bytes_at(bytes, MOST_AT));
-    (least <= most && most <= LIMIT).then(|| capped(least, most))
+    // The label in the label bytes, if they are suitable.
+    fn spelled(bytes: &[u8; 32]) -> Option<Cost>
+        ensures { result ≡ then_some (suitable bytes.now) (capped (least_in bytes.now) (most_in bytes.now)) }
+    {
+        let least = u32::from_be_bytes(bytes_at(bytes, LEAST_AT));
+        let most = u32::from_be_bytes(bytes_at(bytes, MOST_AT));
+        (least <= most && most <= LIMIT).then(|| Self::capped(least, most))
+    }
 }
 
 impl Kind for Cost {
@@ -47,15 +49,15 @@ impl Kind for Cost {
     ghost lawful = { cost_laws };
 
     fn unit() -> Cost {
-        capped(0, 0)
+        Self::capped(0, 0)
     }
 
     fn then(&self, other: &Cost) -> Cost {
-        capped(self.least + other.least, self.most + other.most)
+        Self::capped(self.least + other.least, self.most + other.most)
     }
 
     fn either(&self, other: &Cost) -> Cost {
-        capped(self.least.min(other.least), self.most.max(other.most))
+        Self::capped(self.least.min(other.least), self.most.max(other.most))
     }
 
     fn belongs(&self, _parties: Parties) -> bool {
@@ -63,11 +65,11 @@ impl Kind for Cost {
     }
 
     fn suits(bytes: &[u8; 32], _parties: Parties) -> bool {
-        spelled(bytes).is_some()
+        Self::spelled(bytes).is_some()
     }
 
     fn make(bytes: &[u8; 32], _parties: Parties) -> Cost {
-        spelled(bytes).unwrap_or(<Cost as Kind>::unit())
+        Self::spelled(bytes).unwrap_or(Self::unit())
     }
 
     fn tell(&self) -> (u64, u64) {

@@ -1,5 +1,5 @@
 // Definitions as a kind of label.
-ghost use Rattle.std.specs.Prelude.{◌≡◌, ◌<◌, bit_and, bit_or};
+ghost use Rattle.std.specs.Prelude.{◌≡◌, ◌<◌};
 ghost use Rattle.std.specs.Bool.{then_some};
 ghost use Rattle.analysis.specs.declared.definitions.Definitions.{Definitions};
 ghost use Rattle.numbers.specs.Bits.{bit};
@@ -21,16 +21,6 @@ const KEEP_AT: usize = 16;
 
 const GENS_AT: usize = 24;
 
-// Every site kept, and none defined.
-fn all_kept() -> Definitions
-    ensures { result ≡ all_kept }
-{
-    Definitions {
-        keep: u64::MAX,
-        gens: 0,
-    }
-}
-
 // Whether the site is among the sites.
 fn has(sites: u64, site: u8) -> bool
     requires { site < 64 }
@@ -39,31 +29,36 @@ fn has(sites: u64, site: u8) -> bool
     (sites >> site) % 2 == 1
 }
 
-// Whether each site's owner is in the set, or else the site is left as it was.
-fn confined(label: Definitions, parties: Parties) -> bool
-    ensures { result ≡ confined label (members parties) }
-{
-    (0..SITES).all(|site| {
-        parties.has(site / SITES_OF_PARTY) || has(label.keep, site) && !has(label.gens, site)
-    })
-}
+impl Definitions {
+    // Every site kept, and none defined.
+    fn all_kept() -> Definitions
+        ensures { result ≡ all_kept }
+    {
+        Definitions {
+            keep: u64::MAX,
+            gens: 0,
+        }
+    }
 
-// The label in the label bytes, if it is confined to the set.
-fn spelled(bytes: &[u8; 32], parties: Parties) -> Option<Definitions>
-    ensures { result ≡ then_some (confined (spelled bytes.now) (members parties)) (spelled bytes.now) }
-{
-    let label = Definitions {
-        keep: u64::from_be_bytes(bytes_at(bytes, KEEP_AT)),
-        gens: u64::from_be_bytes(bytes_at(bytes, GENS_AT)),
-    };
-    confined(label, parties).then_some(label)
-}
+    // Whether each site's owner is in the set, or else the site is left as it was.
+    fn confined(self, parties: Parties) -> bool
+        ensures { result ≡ confined self (members parties) }
+    {
+        (0..SITES).all(|site| {
+            parties.has(site / SITES_OF_PARTY) || has(self.keep, site) && !has(self.gens, site)
+        })
+    }
 
-// The sites defined first and then kept, and those defined then.
-fn reaching(first: u64, keep: u64, then: u64) -> u64
-    ensures { result ≡ bit_or (bit_and first keep) then }
-{
-    (first & keep) | then
+    // The label in the label bytes, if it is confined to the set.
+    fn spelled_for(bytes: &[u8; 32], parties: Parties) -> Option<Definitions>
+        ensures { result ≡ then_some (confined (spelled bytes.now) (members parties)) (spelled bytes.now) }
+    {
+        let label = Definitions {
+            keep: u64::from_be_bytes(bytes_at(bytes, KEEP_AT)),
+            gens: u64::from_be_bytes(bytes_at(bytes, GENS_AT)),
+        };
+        label.confined(parties).then_some(label)
+    }
 }
 
 impl Kind for Definitions {
@@ -76,13 +71,13 @@ impl Kind for Definitions {
     ghost lawful = { definitions_laws };
 
     fn unit() -> Definitions {
-        all_kept()
+        Self::all_kept()
     }
 
     fn then(&self, other: &Definitions) -> Definitions {
         Definitions {
             keep: self.keep & other.keep,
-            gens: reaching(self.gens, other.keep, other.gens),
+            gens: (self.gens & other.keep) | other.gens,
         }
     }
 
@@ -94,15 +89,15 @@ impl Kind for Definitions {
     }
 
     fn belongs(&self, parties: Parties) -> bool {
-        confined(*self, parties)
+        self.confined(parties)
     }
 
     fn suits(bytes: &[u8; 32], parties: Parties) -> bool {
-        spelled(bytes, parties).is_some()
+        Self::spelled_for(bytes, parties).is_some()
     }
 
     fn make(bytes: &[u8; 32], parties: Parties) -> Definitions {
-        spelled(bytes, parties).unwrap_or(all_kept())
+        Self::spelled_for(bytes, parties).unwrap_or(Self::all_kept())
     }
 
     fn tell(&self) -> (u64, u64) {

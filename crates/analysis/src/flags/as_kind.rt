@@ -25,26 +25,28 @@ const RELATION_AT: usize = 8;
 const SAME: u64 = 0x8040_2010_0804_0201;
 
 impl Flags {
+    // Whether the one value may become the other.
     fn may(self, pair: Pair) -> bool
         ensures { result ≡ may self.relation pair.from pair.to }
     {
         (self.relation >> (VALUES * pair.from + pair.to)) % 2 == 1
     }
 
-    // Whether the one value may become the other by this and then `other`.
+    // Whether it may by this relation and then the other.
     fn through(self, other: Flags, pair: Pair) -> bool
         ensures { result ≡ through self.relation other.relation pair.from pair.to }
     {
         (0..VALUES).any(|u| self.may(Pair::new(pair.from, u)) && other.may(Pair::new(u, pair.to)))
     }
 
-    // Whether the pair is there, but changes the flag or depends on it.
+    // Whether the pair is there, but changes the flag, or is not there with the flag flipped.
     fn strays(self, flag: Flag, pair: Pair) -> bool
         ensures { result ≡ strays self.relation flag.number pair.from pair.to }
     {
         self.may(pair) && !(pair.keeps(flag) && self.may(pair.flipped(flag)))
     }
 
+    // Whether the relation changes the flag or depends on it.
     fn concerns(self, flag: Flag) -> bool
         ensures { result ≡ some_below 64 (λ k. strays self.relation flag.number (k / 8) (k % 8)) }
     {
@@ -57,16 +59,16 @@ impl Flags {
     {
         (0..FLAGS).all(|number| parties.has(number) || !self.concerns(Flag::new(number)))
     }
-}
 
-// The label in the label bytes, if it stays within the set.
-fn spelled(bytes: &[u8; 32], parties: Parties) -> Option<Flags>
-    ensures { MatchOption result (stays_within (relation_in bytes.now) (members parties) ≡ false) (λ x. (stays_within (relation_in bytes.now) (members parties) ≡ true) × (x.relation ≡ relation_in bytes.now)) }
-{
-    let label = Flags {
-        relation: u64::from_be_bytes(bytes_at(bytes, RELATION_AT)),
-    };
-    label.stays_within(parties).then_some(label)
+    // The label in the label bytes, if it stays within the set.
+    fn spelled_for(bytes: &[u8; 32], parties: Parties) -> Option<Flags>
+        ensures { let suits = stays_within (relation_in bytes.now) (members parties) in MatchOption result (suits ≡ false) (λ x. (suits ≡ true) × (x.relation ≡ relation_in bytes.now)) }
+    {
+        let label = Flags {
+            relation: u64::from_be_bytes(bytes_at(bytes, RELATION_AT)),
+        };
+        label.stays_within(parties).then_some(label)
+    }
 }
 
 impl Kind for Flags {
@@ -100,11 +102,11 @@ impl Kind for Flags {
     }
 
     fn suits(bytes: &[u8; 32], parties: Parties) -> bool {
-        spelled(bytes, parties).is_some()
+        Self::spelled_for(bytes, parties).is_some()
     }
 
     fn make(bytes: &[u8; 32], parties: Parties) -> Flags {
-        spelled(bytes, parties).unwrap_or(<Flags as Kind>::unit())
+        Self::spelled_for(bytes, parties).unwrap_or(Self::unit())
     }
 
     fn tell(&self) -> (u64, u64) {

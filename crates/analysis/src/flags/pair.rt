@@ -59,9 +59,10 @@ impl Pair {
     pub(crate) fn flipped(self, flag: Flag) -> Pair
         ensures { (result.from ≡ flipped flag.number self.from) × (result.to ≡ flipped flag.number self.to) }
     {
+        let bit = 1 << flag.number;
         Pair {
-            from: self.from ^ (1 << flag.number),
-            to: self.to ^ (1 << flag.number),
+            from: self.from ^ bit,
+            to: self.to ^ bit,
         }
     }
 }

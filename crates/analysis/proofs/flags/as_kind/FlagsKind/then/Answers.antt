@@ -2,7 +2,7 @@ use Rattle.std.proofs.Common.{rules, ◌/◌, ◌%◌, refl, ◌∙◌, Bool, �
 use borrow.Author.Tests.{tests}
 use Rattle.std.proofs.lemmas.Iterator.{YieldsList-from_range}
 use Rattle.std.proofs.lemmas.Iterator.Consumers.{fold_from_yields_List, YieldsList-from_filter}
-use Rattle.analysis.proofs.Ranges.{with_bit, bits_set}
+use Rattle.numbers.proofs.RangeLaws.{with_bit, bits_set}
 use Rattle.analysis.specs.FlagPairs.{same_flags}
 use Rattle.analysis.specs.FlagsAlgebra.{through}
 use Rattle.analysis.proofs.flags.as_kind.FlagsKind.then.Goals as goal

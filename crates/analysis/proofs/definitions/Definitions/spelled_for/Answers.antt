@@ -9,7 +9,7 @@ use Rattle.analysis.specs.DefinitionsLaws.{is_sited}
 use Rattle.analysis.specs.LabelBytes.{keep_in, gen_in}
 use Rattle.analysis.specs.Parties.{Set, members}
 use Rattle.analysis.specs.declared.definitions.Definitions.{Definitions}
-use Rattle.analysis.proofs.definitions.as_kind.spelled.Goals as goal
+use Rattle.analysis.proofs.definitions.Definitions.spelled_for.Goals as goal
 
 if_confined : (bytes : Bytes) (P : Set) (x : Definitions) (b : Bool) (r : Option Definitions) → x.keep ≡ keep_in bytes → x.gens ≡ gen_in bytes → b ≡ confined x P → r ≡ then_some b x → r ≡ then_some (confined (spelled bytes) P) (spelled bytes)
 if_confined bytes P x b r keep gens tested made =
