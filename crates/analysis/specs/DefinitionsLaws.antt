@@ -1,9 +1,9 @@
 -- Definitions keep the laws: what holds at each site holds of the labels.
-use Rattle.std.specs.Prelude.{◌≡◌, ℕ, ◌^◌, ◌<◌, Bool, true, false, not, ◌&&◌, ◌||◌, ◌≢◌, refl}
+use Rattle.std.specs.Prelude.{◌≡◌, ℕ, ◌^◌, ◌<◌, Bool, true, false, not, ◌&&◌, ◌||◌, refl}
 use mathlib.Core.HLevel.{is_prop→PathP, ×_prop}
 use Rattle.std.proofs.Common.{⊎_elim, sym, ap, ◌∙◌, arith}
 use Rattle.std.proofs.Math.Bridge.{le_prop}
-use Rattle.std.proofs.lemmas.Bool.{both_ways, cases_Bool, not-true, cond-true, cond-false}
+use Rattle.std.proofs.lemmas.Bool.{both_ways, cases_Bool, not-true, cond-true, cond-false, false_from_ne_true}
 use Rattle.numbers.proofs.BelowLaws.{some_none, none_at}
 use Rattle.analysis.specs.declared.definitions.Definitions.{Definitions}
 use Rattle.analysis.specs.Algebra.{Laws}
@@ -82,11 +82,6 @@ label_at (s either t) b lt = at_sited _ _ b lt ∙ (λ i. either_site (label_at 
 by_sites : (s t : Term) → ((b : ℕ) → b < 64 → site s b ≡ site t b) → label s ≡ label t
 by_sites s t h = same_sites (label s) (label t) (λ b lt. label_at s b lt ∙ h b lt ∙ sym (label_at t b lt))
 
--- a test that cannot pass fails
-fails : (a : Bool) → (a ≢ true) → a ≡ false
-fails true never = absurd (never refl)
-fails false never = refl
-
 -- whether a site strays, by whether its owner is in the set
 abbrev stray : Bool → Site → Bool
 stray a s = not a && (not s.0 || s.1)
@@ -112,7 +107,7 @@ untouched_commutes s t e = grind arith
 disjoint_sites : (x y : Definitions) (P Q : Set) → Disjoint P Q → confined x P ≡ true → confined y Q ≡ true → (b : ℕ) → b < 64 → then_site (at x b) (at y b) ≡ then_site (at y b) (at x b)
 disjoint_sites x y P Q disjoint p q b lt =
     ⊎_elim
-    (λ member. sym (untouched_commutes (at y b) (at x b) (outside y Q q b lt (fails (Q (owner b)) (disjoint (owner b) member)))))
+    (λ member. sym (untouched_commutes (at y b) (at x b) (outside y Q q b lt (false_from_ne_true (Q (owner b)) (disjoint (owner b) member)))))
     (λ out. untouched_commutes (at x b) (at y b) (outside x P p b lt out))
     (cases_Bool (P (owner b)))
 
@@ -130,7 +125,7 @@ definitions_laws =
       unit_belongs = λ P. confined_from unit P (λ b lt out. refl);
       then_belongs = λ x y P p q. confined_from (the x then the y) P (λ b lt out i. then_site (outside x P p b lt out i) (outside y P q b lt out i));
       either_belongs = λ x y P p q. confined_from (the x either the y) P (λ b lt out i. either_site (outside x P p b lt out i) (outside y P q b lt out i));
-      larger_belongs = λ x P Q larger p. confined_from (the x) Q (λ b lt out. outside x P p b lt (fails (P (owner b)) (λ member. both_ways (Q (owner b)) out (larger (owner b) member))));
+      larger_belongs = λ x P Q larger p. confined_from (the x) Q (λ b lt out. outside x P p b lt (false_from_ne_true (P (owner b)) (λ member. both_ways (Q (owner b)) out (larger (owner b) member))));
       disjoint_commute = λ x y P Q disjoint p q. by_sites (the x then the y) (the y then the x) (disjoint_sites x y P Q disjoint p q);
       suiting_belongs = λ bytes P s. ap (λ x. confined x P) (cond-true (confined (spelled bytes) P) _ _ s) ∙ s;
       unsuiting_unit = λ bytes P s. cond-false (confined (spelled bytes) P) _ _ s;

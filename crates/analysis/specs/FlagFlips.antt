@@ -15,10 +15,7 @@ differ true b = not b
 differ false b = b
 
 alike : (a b : Bool) → differ a b ≡ false → a ≡ b
-alike true true e = refl
-alike true false e = e
-alike false true e = sym e
-alike false false e = refl
+alike a b e = grind arith
 
 -- flipping a flag turns that flag and no other: computed over all values and flags
 flip_table : some_below 8 (λ v. some_below 3 (λ i. some_below 3 (λ j. differ (bit (flipped i v) j) (cond (i == j) (not (bit v j)) (bit v j))))) ≡ false

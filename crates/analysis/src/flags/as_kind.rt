@@ -43,7 +43,7 @@ impl Flags {
     fn strays(self, flag: Flag, pair: Pair) -> bool
         ensures { result ≡ strays self.relation flag.number pair.from pair.to }
     {
-        self.may(pair) && !(pair.keeps(flag) && self.may(pair.flipped(flag)))
+        self.may(pair) && !(pair.same_flag(flag) && self.may(pair.flipped(flag)))
     }
 
     // Whether the relation changes the flag or depends on it.
@@ -86,7 +86,7 @@ impl Kind for Flags {
 
     fn then(&self, other: &Flags) -> Flags {
         let relation = (0..PAIRS)
-            .filter(|k| self.through(*other, Pair::at(*k)))
+            .filter(|&k| self.through(*other, Pair::at(k)))
             .fold(0, |relation, k| relation | 1 << k);
         Flags { relation }
     }

@@ -48,8 +48,8 @@ impl Pair {
         }
     }
 
-    // Whether the flag stays as it was.
-    pub(crate) fn keeps(self, flag: Flag) -> bool
+    // Whether the flag has one value on both sides.
+    pub(crate) fn same_flag(self, flag: Flag) -> bool
         ensures { result ≡ same_flag flag.number self.from self.to }
     {
         (self.from >> flag.number) % 2 == (self.to >> flag.number) % 2
