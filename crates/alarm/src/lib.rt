@@ -12,6 +12,7 @@ use analysis::parties::Parties;
 // Charges above this many microampere-hours sound the alarm.
 const LOUD: u32 = 1000;
 
+// No `PartialEq`, since labels that differ may mean the same.
 #[derive(Clone, Copy, Debug)]
 pub struct Alarm {
     pub loudness: u8,

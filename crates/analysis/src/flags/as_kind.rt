@@ -32,7 +32,7 @@ impl Flags {
         (self.relation >> (VALUES * pair.from + pair.to)) % 2 == 1
     }
 
-    // Whether it may by this relation and then the other.
+    // Whether it may by this and then the other relation.
     fn through(self, other: Flags, pair: Pair) -> bool
         ensures { result ≡ through self.relation other.relation pair.from pair.to }
     {

@@ -4,4 +4,4 @@ use Rattle.numbers.proofs.RangeLaws.{none_from_all}
 use Rattle.analysis.proofs.flags.Flags.stays_within.Goals as goal
 
 pub returns : goal.returns
-returns c = none_from_all _ _ _ _ _ refl c.all.ensures.ran (λ k b q h. search (rules, tests))
+returns c = none_from_all _ _ _ _ _ refl c.all.ensures.ran (λ k b q h. (search (rules, tests), search (rules, tests)))

@@ -4,4 +4,4 @@ use Rattle.numbers.proofs.RangeLaws.{some_from_any}
 use Rattle.analysis.proofs.flags.Flags.through.Goals as goal
 
 pub returns : goal.returns
-returns c = some_from_any _ _ _ _ _ refl c.any.ensures.ran (λ k b q h. search (rules, tests))
+returns c = some_from_any _ _ _ _ _ refl c.any.ensures.ran (λ k b q h. (search (rules, tests), search (rules, tests)))
