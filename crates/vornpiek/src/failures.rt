@@ -2,37 +2,26 @@
 
 use format::faults::{BlockCause, CallCause, Fault, RecordCause};
 use std::alloc::AllocError;
-use std::{fmt, io};
+use std::io;
+use thiserror::Error;
 
-#[derive(Debug, Drop)]
+#[derive(Debug, Drop, Error)]
 pub enum Failure {
-    Refused(Fault),
+    #[error("refused {} layer {} place {}: {}", .0.number(), .0.layer(), .0.place(), sentence(.0))]
+    Refused(#[from] Fault),
+    #[error("vornpiek: cannot read {path}: {error}")]
     Unreadable { path: String, error: io::Error },
+    #[error("vornpiek: not a command: see vornpiek --help")]
     NoCommand,
+    #[error("vornpiek: not a record's number: see vornpiek --help")]
     NoNumber,
-    NoMemory,
-    Io(io::Error),
+    #[error("vornpiek: out of memory")]
+    NoMemory(#[from(alloc)] AllocError),
+    #[error("vornpiek: {0}")]
+    Io(#[from] io::Error),
 }
 
-impl From<Fault> for Failure {
-    fn from(fault: Fault) -> Failure {
-        Failure::Refused(fault)
-    }
-}
-
-impl From<io::Error> for Failure {
-    fn from(error: io::Error) -> Failure {
-        Failure::Io(error)
-    }
-}
-
-impl From<AllocError> for Failure {
-    fn from(_error: AllocError) -> Failure {
-        Failure::NoMemory
-    }
-}
-
-// The sentence of a refusal.
+// The sentence of a refusal; no `Display`, since `Fault` and its causes are of another crate.
 fn sentence(fault: &Fault) -> &'static str {
     match fault {
         Fault::Block { cause, .. } => match cause {
@@ -56,29 +45,5 @@ fn sentence(fault: &Fault) -> &'static str {
         Fault::Call { cause } => match cause {
             CallCause::NoRecord => "there is no record of that number",
         },
-    }
-}
-
-impl fmt::Display for Failure {
-    fn fmt<W: fmt::Write>(&self, f: &mut fmt::Formatter<W>) -> fmt::Result {
-        match self {
-            Failure::Refused(fault) => {
-                let number = fault.number();
-                let layer = fault.layer();
-                let place = fault.place();
-                let why = sentence(fault);
-                write!(f, "refused {number} layer {layer} place {place}: {why}")
-            }
-            Failure::Unreadable { path, error } => write!(
-                f,
-                "vornpiek: cannot read {path}: {error}"
-            ),
-            Failure::NoCommand => f.write_str("vornpiek: not a command: see vornpiek --help"),
-            Failure::NoNumber => f.write_str(
-                "vornpiek: not a record's number: see vornpiek --help",
-            ),
-            Failure::NoMemory => f.write_str("vornpiek: out of memory"),
-            Failure::Io(error) => write!(f, "vornpiek: {error}"),
-        }
     }
 }
