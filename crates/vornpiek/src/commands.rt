@@ -1,7 +1,7 @@
 // What the program is asked to do.
 
 use crate::failures::Failure;
-use std::num::IntErrorKind;
+use std::num::{IntErrorKind, ParseIntError};
 
 pub const VERSION: &str = "vornpiek 0.1.0";
 
@@ -16,7 +16,7 @@ usage:
 A file that is refused is answered on standard error, 'refused N layer L place P: why',
 and the status is 1.";
 
-#[derive(Clone, Copy)]
+#[derive(Clone, Copy, Debug)]
 pub enum Command<'a> {
     Help,
     Version,
@@ -26,30 +26,27 @@ pub enum Command<'a> {
 
 // A number too large for any file is as good as the largest.
 fn parse_number(text: &str) -> Result<usize, Failure> {
-    match text.parse::<usize>() {
-        Ok(number) => Ok(number),
-        Err(error) => match error.kind() {
+    text.parse()
+        .or_else(|error: ParseIntError| match error.kind() {
             IntErrorKind::PosOverflow => Ok(usize::MAX),
             _ => Err(Failure::NoNumber),
-        },
-    }
+        })
 }
 
-// The command that the words after the program's own name spell.
-pub fn parse(words: &[String]) -> Result<Command<'_>, Failure> {
-    match words {
-        [_, flag] if flag.as_str() == "--help" => Ok(Command::Help),
-        [_, flag] if flag.as_str() == "--version" => Ok(Command::Version),
-        [_, verb, path] if verb.as_str() == "names" => Ok(Command::Names {
-            path: path.as_str(),
-        }),
-        [_, verb, path, number] if verb.as_str() == "name" => {
-            let number = parse_number(number.as_str())?;
-            Ok(Command::Name {
-                path: path.as_str(),
-                number,
-            })
+// The command that the words after the program's own name spell; clap would answer in words of its own.
+impl<'a> TryFrom<&[&'a str]> for Command<'a> {
+    type Error = Failure;
+
+    fn try_from(words: &[&'a str]) -> Result<Command<'a>, Failure> {
+        match *words {
+            ["--help"] => Ok(Command::Help),
+            ["--version"] => Ok(Command::Version),
+            ["names", path] => Ok(Command::Names { path }),
+            ["name", path, number] => {
+                let number = parse_number(number)?;
+                Ok(Command::Name { path, number })
+            }
+            _ => Err(Failure::NoCommand),
         }
-        _ => Err(Failure::NoCommand),
     }
 }

@@ -10,41 +10,42 @@ use failures::Failure;
 use files::read_setup;
 use format::names::name;
 use format::records::check_records;
-use std::env;
 use std::io::Write;
 use std::process::ExitCode;
+use std::rt::{Env, Files};
+use std::{env, io};
 
-// A line for each record that is not blank: its number and its name.
-fn print_names(rt: &HostRuntime, file: &[u8]) -> Result<(), Failure> {
-    let contents = check_records(file)?;
-    let mut out = rt.stdout();
-    for number in 0..contents.steps.saturating_add(contents.outcomes) {
-        write!(out, "{number} ")?;
-        out.write_all(name(file, number)?)?;
-        out.write_all(b"\n")?;
-    }
-    Ok(())
-}
-
-fn print_name(rt: &HostRuntime, file: &[u8], number: usize) -> Result<(), Failure> {
-    let mut out = rt.stdout();
+// A line with the name of one record.
+fn print_name(out: &mut impl Write, file: &[u8], number: usize) -> Result<(), Failure> {
     out.write_all(name(file, number)?)?;
     out.write_all(b"\n")?;
     Ok(())
 }
 
-fn run(rt: &HostRuntime) -> Result<(), Failure> {
-    let words: Vec<String> = env::args(rt)?.collect(rt.alloc())?;
-    match commands::parse(words.as_slice())? {
-        Command::Help => println!(rt; "{HELP}")?,
-        Command::Version => println!(rt; "{VERSION}")?,
+// A line for each record that is not blank: its number, by which it is asked for, and its name.
+fn print_names(out: &mut impl Write, file: &[u8]) -> Result<(), Failure> {
+    let contents = check_records(file)?;
+    for number in 0..contents.steps.saturating_add(contents.outcomes) {
+        write!(out, "{number} ")?;
+        print_name(out, file, number)?;
+    }
+    Ok(())
+}
+
+fn run(rt: &(impl Env + Files + Print + AllocGlobal)) -> Result<(), Failure> {
+    let args: Vec<String> = env::args(rt)?.skip(1).collect(rt.alloc())?;
+    let words: Vec<&str> = args.iter().map(String::as_str).collect(rt.alloc())?;
+    let mut out = io::writer(rt);
+    match Command::try_from(words.as_slice())? {
+        Command::Help => writeln!(out, "{HELP}")?,
+        Command::Version => writeln!(out, "{VERSION}")?,
         Command::Names { path } => {
             let file = read_setup(rt, path)?;
-            print_names(rt, file.as_slice())?;
+            print_names(&mut out, file.as_slice())?;
         }
         Command::Name { path, number } => {
             let file = read_setup(rt, path)?;
-            print_name(rt, file.as_slice(), number)?;
+            print_name(&mut out, file.as_slice(), number)?;
         }
     }
     Ok(())
