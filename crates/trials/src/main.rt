@@ -2,135 +2,188 @@
 // It writes and seals the changed files by code of its own.
 #![tactic(auto)]
 
-use format::faults::Fault;
+use format::faults::{BlockCause, Fault, RecordCause};
 use format::names::name;
 use format::records::{Contents, check_records};
+use std::alloc::{AllocError, Global};
 use std::{fs, io};
 
+// A block is a header, the records, and the check of all before it.
 const BLOCK: usize = 512;
+
+const HEADER: usize = 4;
 
 const RECORDS: usize = 9;
 
+const CHECK: usize = 508;
+
+const RECORD: usize = 56;
+
+// Where a record has the length of its name; the name's bytes are the rest.
 const NAME: usize = 42;
 
-// The number, layer and place of a refusal; all 0 where the name is given.
-fn answer(file: &[u8], number: usize) -> (u8, u8, usize) {
-    match name(file, number) {
-        Ok(_) => (0, 0, 0),
-        Err(fault) => (fault.number(), fault.layer(), fault.place()),
-    }
+type Block = [u8; BLOCK];
+
+type Record = [u8; RECORD];
+
+// Why a file is refused, if it is.
+fn refusal(file: &[u8]) -> Option<Fault> {
+    name(file, 0).err()
 }
 
-fn put(file: &mut [u8], at: usize, byte: u8) {
-    if at < file.len() {
-        file[at] = byte;
-    }
+// The number, layer and place of a refusal, to be printed; all 0 where there is none.
+fn triple(refusal: Option<Fault>) -> (u8, u8, usize) {
+    refusal.map_or((0, 0, 0), |fault| {
+        (fault.number(), fault.layer(), fault.place())
+    })
 }
 
-// Writes the check of block `b` anew.
-fn seal(file: &mut [u8], b: usize) {
-    let at = b.saturating_mul(BLOCK);
-    let mut sum: u32 = 0;
-    for (i, byte) in file.iter().skip(at).take(508).enumerate() {
-        sum = sum.wrapping_add(
-            (i as u32 & 0xffff)
-                .wrapping_add(1)
-                .wrapping_mul(u32::from(*byte)),
-        );
-    }
-    for (i, byte) in sum.to_be_bytes().iter().enumerate() {
-        put(file, at.saturating_add(508 + i), *byte);
-    }
+// Writes the check of a block anew: the sum of the bytes before it, each times its place from 1.
+fn seal(block: &mut Block) {
+    let (bytes, check) = block.split_at_mut(CHECK);
+    let sum = (1u32..)
+        .zip(bytes.iter())
+        .fold(0u32, |sum, (weight, byte)| {
+            sum.wrapping_add(weight.wrapping_mul(u32::from(*byte)))
+        });
+    check.copy_from_slice(&sum.to_be_bytes());
 }
 
-fn record_at(r: usize) -> usize {
-    (r / RECORDS)
-        .saturating_mul(BLOCK)
-        .saturating_add(4 + r % RECORDS * 56)
+// Writes a name of `length` letters into a record, or as many of them as there is room for.
+fn rename(record: &mut Record, length: u8) {
+    record[NAME] = length;
+    let name = &mut record[NAME + 1..];
+    let (letters, zeros) = name.split_at_mut(usize::from(length).min(name.len()));
+    letters.fill(b'n');
+    zeros.fill(0);
 }
 
-// Writes a name of `len` letters into record `r`, and seals its block.
-fn rename(file: &mut [u8], r: usize, len: u8) {
-    let at = record_at(r).saturating_add(NAME);
-    put(file, at, len);
-    for i in 0..13u8 {
-        let byte = if i < len { b'n' } else { 0 };
-        put(file, at.saturating_add(1 + usize::from(i)), byte);
-    }
-    seal(file, r / RECORDS);
+// The step of number 0, with one party and a name of one letter.
+fn step() -> Record {
+    let mut record = [0; RECORD];
+    record[0] = 1;
+    record[2] = 1;
+    rename(&mut record, 1);
+    record
 }
 
-// How many of the records get the answer `wanted` at their own place, once their names have length `len`.
-fn renamed(file: &[u8], copy: &mut [u8], records: usize, len: u8, wanted: (u8, u8)) -> usize {
-    let mut right: usize = 0;
-    for r in 0..records {
-        if copy.len() == file.len() {
-            copy.copy_from_slice(file);
-        }
-        rename(copy, r, len);
-        let place = if wanted.0 == 0 { 0 } else { r };
-        if answer(copy, 0) == (wanted.0, wanted.1, place) {
-            right = right.saturating_add(1);
-        }
-    }
-    right
-}
-
-// How many of all changes of one byte are refused by the check of its block.
-fn changed(copy: &mut [u8]) -> usize {
-    let mut right: usize = 0;
-    for i in 0..copy.len() {
-        let old = copy[i];
-        for by in 1..=255u8 {
-            copy[i] = old.wrapping_add(by);
-            if answer(copy, 0) == (2, 1, i / BLOCK) {
-                right = right.saturating_add(1);
-            }
-        }
-        copy[i] = old;
-    }
-    right
-}
-
-// A block with one step, and blanks behind it or, where `steps` is 0, alone.
-fn lone_block(steps: u8) -> [u8; 512] {
-    let mut block = [0u8; 512];
+// A file of one block: the records, and blanks behind them.
+fn lone_block(records: &[Record]) -> Block {
+    let mut block = [0; BLOCK];
     block[3] = 1;
-    if steps > 0 {
-        block[4] = 1;
-        block[6] = 1;
-        block[46] = 1;
-        block[47] = b's';
+    let (places, _) = block[HEADER..CHECK].as_chunks_mut::<RECORD>();
+    for (place, record) in places.iter_mut().zip(records) {
+        *place = *record;
     }
-    seal(&mut block, 0);
+    seal(&mut block);
     block
+}
+
+// A sample file, and the copy of it that each trial changes.
+#[derive(Drop)]
+struct Trial<'a> {
+    file: &'a [u8],
+    copy: Vec<u8>,
+    records: usize,
+}
+
+impl<'a> Trial<'a> {
+    fn new(alloc: Global, file: &'a [u8]) -> Result<Trial<'a>, AllocError> {
+        let contents = check_records(file).unwrap_or(Contents {
+            steps: 0,
+            outcomes: 0,
+        });
+        Ok(Trial {
+            file,
+            copy: file.to_vec(alloc)?,
+            records: contents.steps.saturating_add(contents.outcomes),
+        })
+    }
+
+    // Byte by byte, since `copy_from_slice` takes only what is known to be as long.
+    fn restore(&mut self) {
+        for (byte, original) in self.copy.iter_mut().zip(self.file) {
+            *byte = *original;
+        }
+    }
+
+    // Why the copy is refused, if it is, once a record's name has `length` letters.
+    fn renamed(&mut self, record: usize, length: u8) -> Option<Fault> {
+        self.restore();
+        let (blocks, _) = self.copy.as_mut_slice().as_chunks_mut::<BLOCK>();
+        if let Some(block) = blocks.get_mut(record / RECORDS) {
+            let (records, _) = block[HEADER..CHECK].as_chunks_mut::<RECORD>();
+            rename(&mut records[record % RECORDS], length);
+            seal(block);
+        }
+        refusal(self.copy.as_slice())
+    }
+
+    // Why the copy is refused, if it is, once one byte is another.
+    fn changed(&mut self, at: usize, byte: u8) -> Option<Fault> {
+        self.restore();
+        if let Some(place) = self.copy.get_mut(at) {
+            *place = byte;
+        }
+        refusal(self.copy.as_slice())
+    }
+
+    // How many records, once renamed, are refused at their own place for the cause, or taken where
+    // there is none.
+    fn count_renamed(&mut self, length: u8, wanted: Option<RecordCause>) -> usize {
+        (0..self.records)
+            .filter(|&place| {
+                self.renamed(place, length) == wanted.map(|cause| Fault::Record { cause, place })
+            })
+            .count()
+    }
+
+    // How many of all changes of one byte are refused by the check of its block.
+    fn count_changed(&mut self) -> usize {
+        let file = self.file;
+        file.iter()
+            .enumerate()
+            .map(|(at, old)| self.count_changed_at(at, *old))
+            .fold(0, usize::saturating_add)
+    }
+
+    fn count_changed_at(&mut self, at: usize, old: u8) -> usize {
+        let wanted = Some(Fault::Block {
+            cause: BlockCause::Check,
+            place: at / BLOCK,
+        });
+        (1..=u8::MAX)
+            .filter(|by| self.changed(at, old.wrapping_add(*by)) == wanted)
+            .count()
+    }
 }
 
 fn main(rt: HostRuntime) -> io::Result<()> {
     let file = fs::read(&rt, "fitting.knee")?;
-    let file = file.as_slice();
-    let mut copy = file.to_vec(rt.alloc())?;
-    let long = vec![in rt.alloc(); 0u8; 9728]?;
-    let contents = check_records(file).unwrap_or(Contents {
-        steps: 0,
-        outcomes: 0,
-    });
-    let records = contents.steps.saturating_add(contents.outcomes);
+    let mut trial = Trial::new(rt.alloc(), file.as_slice())?;
     let bytes = file.len();
+    let records = trial.records;
     println!(rt; "fitting.knee: {bytes} bytes, {records} records")?;
-    let told = answer(long.as_slice(), 0);
+    let long = vec![in rt.alloc(); 0u8; 9728]?;
+    let told = triple(refusal(long.as_slice()));
     println!(rt; "length 9728: {told:?}")?;
-    let eight = answer(&lone_block(1), 0);
-    let nine = answer(&lone_block(0), 0);
+    let eight = triple(refusal(&lone_block(&[step()])));
+    let nine = triple(refusal(&lone_block(&[])));
     println!(rt; "eight blanks: {eight:?}, nine blanks: {nine:?}")?;
-    let taken = renamed(file, copy.as_mut_slice(), records, 13, (0, 0));
-    println!(rt; "names of length 13: {taken} taken")?;
-    let refused = renamed(file, copy.as_mut_slice(), records, 14, (7, 2));
-    println!(rt; "names of length 14: {refused} refused by 7 at their record")?;
-    let blank = renamed(file, copy.as_mut_slice(), records, 0, (6, 2));
-    println!(rt; "names of length 0: {blank} refused by 6 at their record")?;
-    copy.as_mut_slice().copy_from_slice(file);
-    let seen = changed(copy.as_mut_slice());
-    println!(rt; "one byte changed: {seen} refused by 2 at its block")?;
+    let renamings = [
+        (13, None, "taken"),
+        (14, Some(RecordCause::Name), "refused by 7 at their record"),
+        (
+            0,
+            Some(RecordCause::Unnamed),
+            "refused by 6 at their record",
+        ),
+    ];
+    for (length, wanted, told) in renamings {
+        let right = trial.count_renamed(length, wanted);
+        println!(rt; "names of length {length}: {right} {told}")?;
+    }
+    let right = trial.count_changed();
+    println!(rt; "one byte changed: {right} refused by 2 at its block")?;
     Ok(())
 }
