@@ -1,7 +1,8 @@
 -- Laws of the first check that fails.
-use Rattle.std.proofs.Common.{◌≡◌, ℕ, zero, suc, ◌+◌, ◌<◌, true, false, cond, List, [], ◌∷◌, ◌++◌, Some, None, Option, sym, refl, ap, ◌∙◌, ⊎_elim, add-one, arith}
+use Rattle.std.proofs.Common.{◌≡◌, ℕ, zero, suc, ◌+◌, ◌<◌, Bool, true, false, not, cond, List, [], ◌∷◌, ◌++◌, Some, None, Option, sym, refl, ap, ◌∙◌, ⊎_elim, add-one, arith}
 use Rattle.std.proofs.lemmas.Bool.{cases_order, cond-true, cond-false}
-use Rattle.format.specs.Refusals.{Refusal, Check, first_failing}
+use Rattle.format.specs.declared.faults.Fault.{Fault}
+use Rattle.format.specs.Refusals.{Refusal, Check, first_failing, check_of}
 use Rattle.numbers.specs.Below.{each_below}
 
 -- the first answer, else the second
@@ -46,6 +47,11 @@ each_stops (suc n) checks i r lt none some =
 
 some≢none : {r : Refusal} → Some r ≡ None → ⊥
 some≢none e = let z : ◌≡◌ {A = ℕ} 0 1 = cc in omega arith
+
+-- a check that answers by whether the test holds is the check of the test that it holds against
+pub same_check : (fault : Fault) (holds wrong : Bool) → holds ≡ not wrong → first_failing (check_of fault (not holds) ∷ []) ≡ first_failing (check_of fault wrong ∷ [])
+same_check fault holds true e = ap (λ b. first_failing (check_of fault (not b) ∷ [])) e
+same_check fault holds false e = ap (λ b. first_failing (check_of fault (not b) ∷ [])) e
 
 -- where none fails, each one passes
 pub none_first : (c : Check) (cs : List Check) → first_failing (c ∷ cs) ≡ None → (c.fails ≡ false) × (first_failing cs ≡ None)

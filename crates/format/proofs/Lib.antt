@@ -1,4 +1,7 @@
 pub mod First
+pub mod Answered
+pub mod Chunks
+pub mod RecordsIn
 pub mod Zeros
 pub mod Blanks
 pub mod Cuts

@@ -1,7 +1,8 @@
 -- The record layer: a record's parts, and its checks one after the other.
-use Rattle.std.proofs.Common.{◌≡◌, ℕ, zero, suc, ◌+◌, ◌≤◌, Bool, true, false, cond, ◌&&◌, ltb, List, [], ◌∷◌, ◌++◌, take, drop, None, sym, ap, ◌∙◌, add-one, arith}
+use Rattle.std.proofs.Common.{◌≡◌, ℕ, zero, suc, ◌+◌, ◌≤◌, Bool, false, cond, ◌&&◌, ltb, List, [], ◌∷◌, ◌++◌, take, drop, None, sym, ap, ◌∙◌, add-one, arith}
 use Rattle.std.proofs.lemmas.List.{get_or-drop, get_or-take, drop-drop, drop-take}
-use Rattle.std.proofs.lemmas.Bool.{cond-false, cond_both, and_left, ltb-false, or_parts}
+use Rattle.std.proofs.lemmas.Grind.{common_steps}
+use Rattle.std.proofs.lemmas.Bool.{cond-false, cond_both, and_left, ltb-false, or_parts, eq-eqb, ne_eqb}
 use Rattle.numbers.specs.Below.{sum_below, count_below, some_below}
 use Rattle.format.specs.Layout.{Bytes, byte, record_of, kind_of, is_blank, is_step, is_outcome, step_of, mask_of, unused_of, name_length, name_field, floor_at}
 use Rattle.format.specs.Refusals.{Check, first_failing, record_check}
@@ -34,22 +35,36 @@ module _ (ahead : Ahead) (rec : Bytes) where
   abbrev pub last_two : List Check
   last_two = record_check 8 ahead.records (is_step rec && wrong_step ahead (step_of rec) (mask_of rec) (unused_of rec)) ∷ record_check 9 ahead.records (is_outcome rec && wrong_outcome ahead (step_of rec)) ∷ []
 
+  -- the checks of the name that was cut out are those of the record's name
+  pub cut_names : (name text : Bytes) → name ≡ drop 40 (drop 2 rec) → text ≡ drop 1 name → first_failing (name_field_checks ahead.records (byte name 0) text) ≡ first_failing named
+  cut_names name text cut rest = λ i. first_failing (name_field_checks ahead.records (cut_length rec name cut i) ((rest ∙ cut_text rec name cut) i))
+
   -- a record of a right kind is checked from its name on
   pub past_kind : is_blank rec ≡ false → wrong_kind ahead (kind_of rec) ≡ false → first_failing (record_checks ahead rec) ≡ first_failing (named ++ last_two)
   past_kind some right = ap first_failing (cond-false (is_blank rec) [] _ some) ∙ cond-false (wrong_kind ahead (kind_of rec)) _ _ right
 
-  pub past_name : is_blank rec ≡ false → wrong_kind ahead (kind_of rec) ≡ false → first_failing named ≡ None → first_failing (record_checks ahead rec) ≡ first_failing last_two
-  past_name some right name = past_kind some right ∙ past named last_two name
+  -- a step behind no outcome has its name and its own fields to check
+  module _ (step : kind_of rec ≡ 1) (first : ahead.outcomes ≡ 0) where
+    pub step_name : first_failing (record_checks ahead rec) ≡ first_failing (named ++ last_two)
+    step_name = past_kind (grind (arith, common_steps)) (grind (arith, common_steps))
 
-  pub step_left : is_step rec ≡ true → is_outcome rec ≡ false → first_failing last_two ≡ first_failing (record_check 8 ahead.records (wrong_step ahead (step_of rec) (mask_of rec) (unused_of rec)) ∷ [])
-  step_left step other =
-      ap (λ b. first_failing (record_check 8 ahead.records b ∷ record_check 9 ahead.records (is_outcome rec && wrong_outcome ahead (step_of rec)) ∷ [])) (and_skip (is_step rec) (wrong_step ahead (step_of rec) (mask_of rec) (unused_of rec)) step)
-      ∙ ap (λ b. first_failing (record_check 8 ahead.records (wrong_step ahead (step_of rec) (mask_of rec) (unused_of rec)) ∷ record_check 9 ahead.records b ∷ [])) (and_left (is_outcome rec) (wrong_outcome ahead (step_of rec)) other)
+    pub step_left : first_failing named ≡ None → first_failing (record_checks ahead rec) ≡ first_failing (record_check 8 ahead.records (wrong_step ahead (step_of rec) (mask_of rec) (unused_of rec)) ∷ [])
+    step_left name =
+        let two = past named last_two name in
+        step_name ∙ two
+        ∙ ap (λ b. first_failing (record_check 8 ahead.records b ∷ record_check 9 ahead.records (is_outcome rec && wrong_outcome ahead (step_of rec)) ∷ [])) (and_skip (is_step rec) (wrong_step ahead (step_of rec) (mask_of rec) (unused_of rec)) (eq-eqb _ 1 step))
+        ∙ ap (λ b. first_failing (record_check 8 ahead.records (wrong_step ahead (step_of rec) (mask_of rec) (unused_of rec)) ∷ record_check 9 ahead.records b ∷ [])) (and_left (is_outcome rec) (wrong_outcome ahead (step_of rec)) (ne_eqb _ 2 (omega arith)))
 
-  pub outcome_left : is_step rec ≡ false → is_outcome rec ≡ true → first_failing last_two ≡ first_failing (record_check 9 ahead.records (wrong_outcome ahead (step_of rec)) ∷ [])
-  outcome_left other outcome =
-      cond-false (is_step rec && wrong_step ahead (step_of rec) (mask_of rec) (unused_of rec)) _ _ (and_left (is_step rec) _ other)
-      ∙ ap (λ b. first_failing (record_check 9 ahead.records b ∷ [])) (and_skip (is_outcome rec) (wrong_outcome ahead (step_of rec)) outcome)
+  -- and so has an outcome
+  module _ (outcome : kind_of rec ≡ 2) where
+    pub outcome_name : first_failing (record_checks ahead rec) ≡ first_failing (named ++ last_two)
+    outcome_name = past_kind (grind (arith, common_steps)) (grind (arith, common_steps))
+
+    pub outcome_left : first_failing named ≡ None → first_failing (record_checks ahead rec) ≡ first_failing (record_check 9 ahead.records (wrong_outcome ahead (step_of rec)) ∷ [])
+    outcome_left name =
+        outcome_name ∙ past named last_two name
+        ∙ cond-false (is_step rec && wrong_step ahead (step_of rec) (mask_of rec) (unused_of rec)) _ _ (and_left (is_step rec) _ (ne_eqb _ 1 (omega arith)))
+        ∙ ap (λ b. first_failing (record_check 9 ahead.records b ∷ [])) (and_skip (is_outcome rec) (wrong_outcome ahead (step_of rec)) (eq-eqb _ 2 outcome))
 
   -- a record that passes, and is not blank, has a name that is not too long
   pub name_fits : is_blank rec ≡ false → first_failing (record_checks ahead rec) ≡ None → name_length rec ≤ 13

@@ -1,5 +1,6 @@
 -- Where the parts of a setup file lie. docs/FORMAT.md has the same in words.
-use Rattle.std.specs.Prelude.{ℕ, zero, suc, ◌+◌, ◌*◌, ◌/◌, ◌%◌, Bool, cond, List, length, take, drop, ◌==◌, slice_index}
+use Rattle.std.specs.Prelude.{ℕ, zero, suc, ◌+◌, ◌-◌, ◌*◌, ◌/◌, ◌%◌, Bool, cond, List, length, map, take, drop, ◌==◌, slice_index}
+use Rattle.std.specs.List.{range_with_len}
 use Rattle.numbers.specs.Below.{sum_below, count_below}
 
 -- a file's bytes, or a part of them
@@ -45,6 +46,10 @@ record_at r = 512 * (r / 9) + (4 + 56 * (r % 9))
 -- the 56 bytes of record r
 abbrev pub record_of : Bytes → ℕ → Bytes
 record_of file r = part file (record_at r) 56
+
+-- the records from place r on
+abbrev pub records_from : Bytes → ℕ → List Bytes
+records_from file r = map (record_of file) (range_with_len r (record_count file - r))
 
 -- a record's first byte: 0 a blank, 1 a step, 2 an outcome
 abbrev pub kind_of : Bytes → ℕ

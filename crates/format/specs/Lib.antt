@@ -1,4 +1,6 @@
 pub mod Layout
+pub mod Reading
+pub mod Kinds
 pub mod Refusals
 pub mod Checks
 pub mod Names

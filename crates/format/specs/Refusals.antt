@@ -66,6 +66,10 @@ pub record Check : Type 0 where
   pub answers : Refusal
   pub fails : Bool
 
+-- the check that answers that fault
+abbrev pub check_of : Fault → Bool → Check
+check_of fault fails = record { answers = refusal_of fault; fails = fails }
+
 -- a check of the block layer
 abbrev pub block_check : ℕ → ℕ → Bool → Check
 block_check n p fails = record { answers = record { number = n; layer = 1; place = p }; fails = fails }

@@ -1,40 +1,41 @@
 // Layer 1: the file's length, each block's check and header, the blanks.
-ghost use Rattle.std.specs.Prelude.{◌≡◌, not, ◌&&◌, length, Err, nat_lt};
-ghost use Rattle.format.specs.declared.faults.Fault.TheVariants.{Block};
-ghost use Rattle.format.specs.Layout.{check_sum};
+ghost use Rattle.std.specs.Prelude.{◌≡◌, not, ◌&&◌, nat_lt};
+ghost use Rattle.format.specs.Layout.{check_sum, record_count};
 ghost use Rattle.format.specs.Refusals.{refusal_in, first_failing};
 ghost use Rattle.format.specs.Checks.{wrong_length, wrong_check, wrong_header, some_nonzero, first_blank, blanks_wrong, block_checks, block_layer};
 ghost use Rattle.format.specs.Changed.{OneChangedByteBreaksTheCheck};
 
-use crate::bytes::{all_zero, cut, is_blank, number16, number32};
+use crate::bytes::all_zero;
+use crate::checks::ensure;
 use crate::faults::{BlockCause, Fault};
-use crate::layout::{BLOCK, MOST_BLANKS, MOST_BLOCKS, SUMMED};
+use crate::kinds::is_blank;
+use crate::layout::{BLOCK, MOST_BLANKS, MOST_BLOCKS, RECORDS_IN_BLOCK, SUMMED};
 use crate::reader::Reader;
 
 // The sum that the block's check should hold.
-fn weighted_sum(block: &[u8]) -> u32
-    requires { length block.now ≡ 512 }
+fn weighted_sum(block: &[u8; BLOCK]) -> u32
     ensures { result ≡ check_sum block.now }
 {
-    let mut sum: u32 = 0;
-    for i in 0..SUMMED {
-        sum += (i as u32 + 1) * u32::from(block[i]);
+    let mut sum = 0;
+    for (i, byte) in block[..SUMMED].iter().enumerate() {
+        sum += (i as u32 + 1) * u32::from(*byte);
     }
     sum
 }
 
-fn check_right(block: &[u8]) -> bool
-    requires { length block.now ≡ 512 }
+fn check_right(block: &[u8; BLOCK]) -> bool
     ensures { result ≡ not (wrong_check block.now) }
 {
-    number32(block, SUMMED) == weighted_sum(block)
+    let [.., c3, c2, c1, c0] = *block;
+    u32::from_be_bytes([c3, c2, c1, c0]) == weighted_sum(block)
 }
 
-fn header_right(block: &[u8], position: usize, count: usize) -> bool
-    requires { length block.now ≡ 512 }
+fn header_right(block: &[u8; BLOCK], position: usize, count: usize) -> bool
     ensures { result ≡ not (wrong_header position count block.now) }
 {
-    usize::from(number16(block, 0)) == position && usize::from(number16(block, 2)) == count
+    let [p1, p0, c1, c0, ..] = *block;
+    usize::from(u16::from_be_bytes([p1, p0])) == position
+        && usize::from(u16::from_be_bytes([c1, c0])) == count
 }
 
 fn length_right(len: usize) -> bool
@@ -43,39 +44,25 @@ fn length_right(len: usize) -> bool
     len % BLOCK == 0 && len >= BLOCK && len <= BLOCK * MOST_BLOCKS
 }
 
-fn refuse(cause: BlockCause, place: usize) -> Result<(), Fault>
-    ensures { result ≡ Err (Block cause place) }
-{
-    Err(Fault::Block { cause, place })
-}
-
 // The checks of one block, in their order.
-fn check_block(block: &[u8], position: usize, count: usize) -> Result<(), Fault>
-    requires { length block.now ≡ 512 }
+fn check_block(block: &[u8; BLOCK], position: usize, count: usize) -> Result<(), Fault>
     ensures { refusal_in result ≡ first_failing (block_checks position count block.now) }
 {
-    if !check_right(block) {
-        return refuse(BlockCause::Check, position);
-    }
-    if !header_right(block, position, count) {
-        return refuse(BlockCause::Header, position);
-    }
-    Ok(())
+    ensure(check_right(block), BlockCause::Check, position)?;
+    ensure(
+        header_right(block, position, count),
+        BlockCause::Header,
+        position,
+    )
 }
 
 // The first record of kind 0, or how many records there are.
 fn first_blank(file: &[u8]) -> usize
     ensures { result ≡ first_blank file.now }
 {
-    let mut reader = Reader::at(file, 0);
-    let mut first = 0;
-    while let Some(record) = reader.next_record() {
-        if is_blank(record) {
-            return first;
-        }
-        first += 1;
-    }
-    first
+    Reader::at(file, 0)
+        .position(|rec| is_blank(rec))
+        .unwrap_or(RECORDS_IN_BLOCK * (file.len() / BLOCK))
 }
 
 // Whether a record may stand behind that many blanks.
@@ -90,33 +77,22 @@ fn blanks_right(file: &[u8], first: usize) -> bool
     requires { first ≡ first_blank file.now }
     ensures { result ≡ not (blanks_wrong file.now) }
 {
-    let mut reader = Reader::at(file, first);
-    let mut blanks = 0;
-    while let Some(record) = reader.next_record() {
-        if !blank_right(record, blanks) {
-            return false;
-        }
-        blanks += 1;
-    }
-    true
+    Reader::at(file, first)
+        .enumerate()
+        .all(|(blanks, rec)| blank_right(rec, blanks))
 }
 
 // The block layer's checks, in their order.
 pub fn check_blocks(file: &[u8]) -> Result<(), Fault>
     ensures { refusal_in result ≡ first_failing (block_layer file.now) }
 {
-    if !length_right(file.len()) {
-        return refuse(BlockCause::Length, 0);
-    }
-    let count = file.len() / BLOCK;
-    for b in 0..count {
-        check_block(cut(file, BLOCK * b, BLOCK), b, count)?;
+    ensure(length_right(file.len()), BlockCause::Length, 0)?;
+    let (blocks, _) = file.as_chunks::<BLOCK>();
+    for (position, block) in blocks.iter().enumerate() {
+        check_block(block, position, blocks.len())?;
     }
     let first = first_blank(file);
-    if !blanks_right(file, first) {
-        return refuse(BlockCause::Blank, first);
-    }
-    Ok(())
+    ensure(blanks_right(file, first), BlockCause::Blank, first)
 }
 
 // The check sees any one changed byte.

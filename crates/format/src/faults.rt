@@ -1,5 +1,6 @@
 // Why a call says no. docs/REFUSALS.md has each number's sentence.
 ghost use Rattle.std.specs.Prelude.{◌≡◌};
+ghost use Rattle.format.specs.declared.faults.Fault.TheVariants.{Call};
 ghost use Rattle.format.specs.Refusals.{number_of, layer_of, place_of};
 
 // What can be wrong with a file's blocks, in the order of the checks.
@@ -33,6 +34,14 @@ pub enum Fault {
     Block { cause: BlockCause, place: usize },
     Record { cause: RecordCause, place: usize },
     Call { cause: CallCause },
+}
+
+impl From<CallCause> for Fault {
+    ghost from_gives = { λ cause fault. fault ≡ Call cause };
+
+    fn from(cause: CallCause) -> Fault {
+        Fault::Call { cause }
+    }
 }
 
 impl Fault {
@@ -73,8 +82,7 @@ impl Fault {
         ensures { result ≡ place_of self.now }
     {
         match self {
-            Fault::Block { place, .. } => *place,
-            Fault::Record { place, .. } => *place,
+            Fault::Block { place, .. } | Fault::Record { place, .. } => *place,
             Fault::Call { .. } => 0,
         }
     }

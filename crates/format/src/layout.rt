@@ -15,13 +15,6 @@ pub(crate) const RECORDS_IN_BLOCK: usize = 9;
 
 pub(crate) const MOST_BLANKS: usize = 8;
 
-// A record's kinds.
-pub(crate) const BLANK: u8 = 0;
-
-pub(crate) const STEP: u8 = 1;
-
-pub(crate) const OUTCOME: u8 = 2;
-
 // A record's bytes between its step byte and its name.
 pub(crate) const FIELDS: usize = 40;
 

@@ -3,7 +3,9 @@
 
 pub mod blocks;
 mod bytes;
+mod checks;
 pub mod faults;
+mod kinds;
 mod layout;
 pub mod names;
 pub mod reader;

@@ -1,22 +1,32 @@
 // The names in a file, each as the part of the file that holds it.
-ghost use Rattle.std.specs.Prelude.{◌≡◌, ◌≤◌, length, IfOk};
-ghost use Rattle.format.specs.Layout.{part, name_length};
+ghost use Rattle.std.specs.Prelude.{◌≡◌, ◌≤◌, true, false, IfOk, MatchOption};
+ghost use Rattle.format.specs.Layout.{part, name_length, record_of};
 ghost use Rattle.format.specs.Refusals.{refusal_in, first_failing};
-ghost use Rattle.format.specs.Names.{name_checks, name_at};
+ghost use Rattle.format.specs.Names.{no_such_record, name_checks, name_at};
 ghost use Rattle.format.specs.Changed.{OneChangedByteIsRefused};
 
-use crate::bytes::{cut, is_blank};
 use crate::faults::{CallCause, Fault};
-use crate::layout::NAME;
+use crate::kinds::is_blank;
+use crate::layout::{NAME, RECORD};
 use crate::reader::Reader;
 use crate::records::check_records;
 
 // The name in a record, as its length gives it.
-fn name_in(rec: &[u8]) -> &[u8]
-    requires { (length rec.now ≡ 56) × (name_length rec.now ≤ 13) }
+fn name_in(rec: &[u8; RECORD]) -> &[u8]
+    requires { name_length rec.now ≤ 13 }
     ensures { result.now ≡ part rec.now 43 (name_length rec.now) }
 {
-    cut(rec, NAME, usize::from(rec[NAME - 1]))
+    let len = usize::from(rec[NAME - 1]);
+    &rec[NAME..NAME + len]
+}
+
+// The record of that number, if it is there and not blank.
+fn record_at(file: &[u8], number: usize) -> Option<&[u8; RECORD]>
+    ensures { MatchOption result
+        (no_such_record file.now number ≡ true)
+        (λ rec. (no_such_record file.now number ≡ false) × (rec.now ≡ record_of file.now number)) }
+{
+    Reader::at(file, number).next().filter(|rec| !is_blank(rec))
 }
 
 // The name of the record of that number: the bytes of the file that spell it.
@@ -26,15 +36,6 @@ pub fn name(file: &[u8], number: usize) -> Result<&[u8], Fault>
     ensures guarded { OneChangedByteIsRefused file.now number }
 {
     let _ = check_records(file)?;
-    let Some(record) = Reader::at(file, number).next_record() else {
-        return Err(Fault::Call {
-            cause: CallCause::NoRecord,
-        });
-    };
-    if is_blank(record) {
-        return Err(Fault::Call {
-            cause: CallCause::NoRecord,
-        });
-    }
+    let record = record_at(file, number).ok_or(CallCause::NoRecord)?;
     Ok(name_in(record))
 }

@@ -1,9 +1,10 @@
 // Goes through a file record by record, stepping over the blocks' headers and checks.
-ghost use Rattle.std.specs.Prelude.{◌≡◌, ◌+◌, ◌<◌, ◌≤◌, length, MatchOption};
+ghost use Rattle.std.specs.Prelude.{◌≡◌, ◌+◌, ◌<◌, ◌≤◌, MatchOption};
+ghost use Rattle.std.specs.Iterator.{YieldsFirstRef, MakesProgress, item_count};
 ghost use Rattle.format.specs.Layout.{record_count, record_of};
+ghost use Rattle.format.specs.Reading.{records_left};
 
-use crate::bytes::cut;
-use crate::layout::{BLOCK, HEADER, RECORD, RECORDS_IN_BLOCK};
+use crate::layout::{BLOCK, HEADER, RECORD, RECORDS_IN_BLOCK, SUMMED};
 
 // The file and the place of the record that comes next.
 #[derive(Drop)]
@@ -19,24 +20,31 @@ impl<'a> Reader<'a> {
     {
         Reader { file, place }
     }
+}
+
+impl<'a> Iterator for Reader<'a> {
+    type Item = &'a [u8; RECORD];
+
+    ghost next_gives = { YieldsFirstRef records_left };
+
+    ghost remaining = { item_count records_left };
 
     // The next record, a part of one block; none where the whole blocks have no more.
-    pub fn next_record(&mut self) -> Option<&'a [u8]>
+    fn next(&mut self) -> Option<&'a [u8; RECORD]>
+        ensures steps { YieldsFirstRef records_left self.old result self.new }
+        ensures goes { MakesProgress (λ (_ : Reader). Unit {0}) (item_count records_left) self.old result self.new }
         ensures file { self.new.file.now ≡ self.old.file.now }
         ensures read { MatchOption result
             ((record_count self.old.file.now ≤ self.old.place) × (self.new.place ≡ self.old.place))
             (λ rec. (self.old.place < record_count self.old.file.now)
             × (self.new.place ≡ self.old.place + 1)
-            × (rec.now ≡ record_of self.old.file.now self.old.place)
-            × (length rec.now ≡ 56)) }
+            × (rec.now ≡ record_of self.old.file.now self.old.place)) }
     {
-        let place = self.place;
-        if place >= RECORDS_IN_BLOCK * (self.file.len() / BLOCK) {
-            return None;
-        }
-        self.place = place + 1;
-        let at = BLOCK * (place / RECORDS_IN_BLOCK)
-            + (HEADER + RECORD * (place % RECORDS_IN_BLOCK));
-        Some(cut(self.file, at, RECORD))
+        let (blocks, _) = self.file.as_chunks::<BLOCK>();
+        let block = blocks.get(self.place / RECORDS_IN_BLOCK)?;
+        let (records, _) = block[HEADER..SUMMED].as_chunks::<RECORD>();
+        let record = &records[self.place % RECORDS_IN_BLOCK];
+        self.place += 1;
+        Some(record)
     }
 }

@@ -1,28 +1,28 @@
 // Layer 2: kinds, names, steps and outcomes, record by record.
 ghost use Rattle.std.specs.Prelude.{◌≡◌, ◌^◌, ◌<◌, ◌≤◌, not, [], ◌∷◌, length, IfOk, Err};
-ghost use Rattle.format.specs.declared.faults.Fault.TheVariants.{Record};
-ghost use Rattle.format.specs.Refusals.{refusal_in, first_failing, record_check};
-ghost use Rattle.format.specs.Checks.{wrong_kind, wrong_name_byte, wrong_text, wrong_step, wrong_outcome, name_field_checks};
+ghost use Rattle.format.specs.Refusals.{refusal_in, first_failing};
+ghost use Rattle.format.specs.Checks.{wrong_name_byte, wrong_text, wrong_step, wrong_outcome, name_field_checks};
 ghost use Rattle.format.specs.Checks.{record_checks, ahead_behind, contents_of, record_layer};
 
 use crate::blocks::check_blocks;
 use crate::bytes::all_zero;
+use crate::checks::{Cause, ensure};
 use crate::faults::{Fault, RecordCause};
+use crate::kinds::{RecordKind, UnknownKind};
 use crate::layout::{
-    BLANK, FIELDS, FIRST_PRINTABLE, GREATEST_STEP, LAST_PRINTABLE, LONGEST_NAME, MOST_OUTCOMES,
-    OUTCOME, STEP,
+    FIELDS, FIRST_PRINTABLE, GREATEST_STEP, LAST_PRINTABLE, LONGEST_NAME, MOST_OUTCOMES, RECORD,
 };
 use crate::reader::Reader;
 
 // How many steps and outcomes a file records.
-#[derive(Clone, Copy, Debug, PartialEq, Eq)]
+#[derive(Clone, Copy, Debug, Default, PartialEq, Eq)]
 pub struct Contents {
     pub steps: usize,
     pub outcomes: usize,
 }
 
 // What lies ahead of a record: how many records, steps and outcomes, and the step of the outcome just ahead, or 0.
-#[derive(Clone, Copy)]
+#[derive(Clone, Copy, Default)]
 struct Ahead {
     records: usize,
     steps: usize,
@@ -46,41 +46,22 @@ fn text_right(len: u8, text: &[u8]) -> bool
     requires { length text.now ≡ 13 }
     ensures { result ≡ not (wrong_text len text.now) }
 {
-    for (i, b) in text.iter().enumerate() {
-        if !name_byte_right(len, i, *b) {
-            return false;
-        }
-    }
-    true
+    text.iter()
+        .enumerate()
+        .all(|(i, b)| name_byte_right(len, i, *b))
 }
 
 impl Ahead {
-    fn refuse(&self, cause: RecordCause) -> Result<(), Fault>
-        ensures { result ≡ Err (Record cause self.now.records) }
-    {
-        Err(Fault::Record {
-            cause,
-            place: self.records,
-        })
-    }
-
-    fn kind_right(&self, kind: u8) -> bool
-        ensures { result ≡ not (wrong_kind self.now kind) }
-    {
-        kind <= OUTCOME && !(kind == STEP && self.outcomes > 0)
-    }
-
     fn check_name(&self, len: u8, text: &[u8]) -> Result<(), Fault>
         requires { length text.now ≡ 13 }
         ensures { refusal_in result ≡ first_failing (name_field_checks self.now.records len text.now) }
     {
-        if len == 0 {
-            return self.refuse(RecordCause::Unnamed);
-        }
-        if len > LONGEST_NAME || !text_right(len, text) {
-            return self.refuse(RecordCause::Name);
-        }
-        Ok(())
+        ensure(len != 0, RecordCause::Unnamed, self.records)?;
+        ensure(
+            len <= LONGEST_NAME && text_right(len, text),
+            RecordCause::Name,
+            self.records,
+        )
     }
 
     fn step_right(&self, step: u8, mask: u8, unused: &[u8]) -> bool
@@ -89,85 +70,59 @@ impl Ahead {
         usize::from(step) == self.steps && step <= GREATEST_STEP && mask != 0 && all_zero(unused)
     }
 
-    fn check_step(&self, step: u8, mask: u8, unused: &[u8]) -> Result<(), Fault>
-        ensures { refusal_in result ≡ first_failing (record_check 8 self.now.records (wrong_step self.now step mask unused.now) ∷ []) }
-    {
-        if !self.step_right(step, mask, unused) {
-            return self.refuse(RecordCause::Step);
-        }
-        Ok(())
-    }
-
     fn outcome_right(&self, step: u8) -> bool
         ensures { result ≡ not (wrong_outcome self.now step) }
     {
         self.outcomes < MOST_OUTCOMES && usize::from(step) + 1 < self.steps && step >= self.floor
     }
 
-    fn check_outcome(&self, step: u8) -> Result<(), Fault>
-        ensures { refusal_in result ≡ first_failing (record_check 9 self.now.records (wrong_outcome self.now step) ∷ []) }
-    {
-        if !self.outcome_right(step) {
-            return self.refuse(RecordCause::Outcome);
-        }
-        Ok(())
-    }
-
     // The checks of the next record, in their order.
-    fn check(&self, rec: &[u8]) -> Result<(), Fault>
-        requires { length rec.now ≡ 56 }
+    fn check(&self, rec: &[u8; RECORD]) -> Result<(), Fault>
         ensures { refusal_in result ≡ first_failing (record_checks self.now rec.now) }
     {
-        let [kind, step, rest @ ..] = rec else {
+        let [kind, step, rest @ ..] = &rec[..] else {
             unreachable()
         };
-        if *kind == BLANK {
-            return Ok(());
-        }
-        if !self.kind_right(*kind) {
-            return self.refuse(RecordCause::Kind);
-        }
         let (fields, name) = rest.split_at(FIELDS);
-        self.check_name(name[0], &name[1..])?;
-        if *kind == STEP {
-            self.check_step(*step, fields[0], &fields[1..])
-        } else {
-            self.check_outcome(*step)
+        let place = self.records;
+        match RecordKind::try_from(*kind) {
+            Ok(RecordKind::Blank) => Ok(()),
+            Ok(RecordKind::Step) => {
+                ensure(self.outcomes == 0, RecordCause::Kind, place)?;
+                self.check_name(name[0], &name[1..])?;
+                let right = self.step_right(*step, fields[0], &fields[1..]);
+                ensure(right, RecordCause::Step, place)
+            }
+            Ok(RecordKind::Outcome) => {
+                self.check_name(name[0], &name[1..])?;
+                ensure(self.outcome_right(*step), RecordCause::Outcome, place)
+            }
+            Err(UnknownKind) => Err(RecordCause::Kind.at(place)),
         }
     }
 
     // The same, one record further.
-    fn behind(self, rec: &[u8]) -> Ahead
-        requires rec_len { length rec.now ≡ 56 }
-        requires records_bound { (self.records < 2 ^ 63) × (self.steps ≤ self.records) × (self.outcomes ≤ self.records) }
+    fn behind(self, rec: &[u8; RECORD]) -> Ahead
+        requires { (self.records < 2 ^ 63) × (self.steps ≤ self.records) × (self.outcomes ≤ self.records) }
         ensures { result ≡ ahead_behind self rec.now }
     {
-        let [kind, step, ..] = rec else { unreachable() };
-        let Ahead {
-            records,
-            steps,
-            outcomes,
-            ..
-        } = self;
-        match *kind {
-            STEP => Ahead {
-                records: records + 1,
-                steps: steps + 1,
-                outcomes,
-                floor: 0,
+        let [kind, step, ..] = *rec;
+        let next = Ahead {
+            records: self.records + 1,
+            floor: 0,
+            ..self
+        };
+        match RecordKind::try_from(kind) {
+            Ok(RecordKind::Step) => Ahead {
+                steps: next.steps + 1,
+                ..next
             },
-            OUTCOME => Ahead {
-                records: records + 1,
-                steps,
-                outcomes: outcomes + 1,
-                floor: *step,
+            Ok(RecordKind::Outcome) => Ahead {
+                outcomes: next.outcomes + 1,
+                floor: step,
+                ..next
             },
-            _ => Ahead {
-                records: records + 1,
-                steps,
-                outcomes,
-                floor: 0,
-            },
+            _ => next,
         }
     }
 }
@@ -178,19 +133,15 @@ pub fn check_records(file: &[u8]) -> Result<Contents, Fault>
     ensures counted { IfOk result (λ c. c ≡ contents_of file.now) }
 {
     check_blocks(file)?;
-    let mut reader = Reader::at(file, 0);
-    let mut ahead = Ahead {
-        records: 0,
-        steps: 0,
-        outcomes: 0,
-        floor: 0,
-    };
-    while let Some(record) = reader.next_record() {
+    let mut ahead = Ahead::default();
+    for record in Reader::at(file, 0) {
         ahead.check(record)?;
         ahead = ahead.behind(record);
     }
-    Ok(Contents {
-        steps: ahead.steps,
-        outcomes: ahead.outcomes,
-    })
+    let Ahead {
+        steps,
+        outcomes,
+        ..
+    } = ahead;
+    Ok(Contents { steps, outcomes })
 }

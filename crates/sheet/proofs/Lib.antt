@@ -4,3 +4,4 @@ pub mod StandingLawful
 pub mod FileParts
 pub mod FileLawful
 pub mod RecordedBounds
+pub mod Reading

@@ -1,6 +1,8 @@
 -- The bits of a mask, and masks of the first parties.
-use Rattle.std.proofs.Common.{◌≡◌, ℕ, ◌+◌, ◌-◌, ◌^◌, ◌<◌, ◌≤◌, Bool, true, false, ◌&&◌, eqb, ltb, sym, refl, ap, ◌∙◌, ⊎_elim, arith, pow_pos, pow_mono}
+use Rattle.std.proofs.Common.{◌≡◌, ℕ, ◌+◌, ◌-◌, ◌^◌, ◌<◌, ◌≤◌, Bool, true, false, cond, not, ◌&&◌, eqb, ltb, sym, refl, ap, ◌∙◌, ⊎_elim, arith, pow_pos, pow_mono}
 use Rattle.std.proofs.lemmas.Bool.{both_ways, cases_Bool, cases_lt, and_parts, ltb-true, lt-ltb, eqb-true}
+use Rattle.std.specs.Int.{is_power_of_two}
+use lib.Count.{ones}
 use Rattle.numbers.specs.Below.{sum_below, count_below, some_below}
 use Rattle.numbers.specs.Bits.{bit}
 use Rattle.numbers.proofs.BelowLaws.{some_at, none_at}
@@ -31,6 +33,20 @@ bit_below m p small set =
     (λ inside. inside)
     (λ beyond. let wide : 2 ^ 8 ≤ 2 ^ p = pow_mono beyond in absurd (both_ways (bit m p) (bit_above m p (omega arith)) set))
     (cases_lt p 8)
+
+-- a byte is 2^k − 1 where the number above it is a power of two
+abbrev power_right : ℕ → Bool
+power_right m = cond (is_power_of_two (m + 1)) (first_parties m) (not (first_parties m))
+
+power_table : all_below 256 power_right ≡ true
+unfolding some_below ones
+power_table = refl
+
+alike : (a b : Bool) → cond a b (not b) ≡ true → a ≡ b
+alike a b h = grind arith
+
+pub power_first : (m : ℕ) → m < 256 → is_power_of_two (m + 1) ≡ first_parties m
+power_first m small = alike _ _ (all_at 256 power_right power_table m small)
 
 -- 2^k − 1 has the bits below k, and k of them
 abbrev first_right : ℕ → Bool

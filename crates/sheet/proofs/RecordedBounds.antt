@@ -3,7 +3,7 @@ use Rattle.std.proofs.Common.{◌+◌, ◌≤◌, sym, subst}
 use Rattle.format.specs.Layout.{Bytes, record_count}
 use Rattle.format.specs.declared.records.Contents.{Contents}
 use Rattle.format.proofs.InOrder.{in_order}
-use Rattle.sheet.specs.Drafts.{Recorded}
+use Rattle.sheet.specs.Recorded.{Recorded}
 
 pub record Bounds (file : Bytes) (contents : Contents) : Type 0 where
   pub few_steps : contents.steps ≤ 32

@@ -2,6 +2,7 @@
 #![tactic(auto)]
 
 mod draft;
+mod recorded;
 mod records;
 mod sets;
 pub mod sheet;

@@ -24,7 +24,7 @@ impl Table {
     pub(crate) fn get(&self, r: usize) -> Option<Row>
         ensures { result ≡ slice_index_or self.now.rows r None }
     {
-        if r < ROWS { self.rows[r] } else { None }
+        self.rows.get(r).copied().flatten()
     }
 
     // Writes one row.

@@ -39,10 +39,7 @@ impl Steps {
     pub(crate) fn of(&self, step: usize) -> Parties
         ensures { result.mask ≡ slice_index (masks_of self.now) step }
     {
-        if step < self.count {
-            self.parties[step]
-        } else {
-            NOBODY
-        }
+        let parties = &self.parties[..self.count];
+        parties.get(step).copied().unwrap_or(NOBODY)
     }
 }

@@ -1,50 +1,66 @@
-use Rattle.std.proofs.Common.{◌≡◌, ◌+◌, ◌-◌, ◌<◌, not, ltb, sym, ap, ◌∙◌, ⊎_elim, arith, below_more}
-use Rattle.std.proofs.lemmas.Bool.{ltb-false, ltb-true, and_cases, and_parts, not-true, not-false}
-use Rattle.format.specs.Layout.{record_count, record_of}
-use Rattle.format.specs.Checks.{some_nonzero}
-use Rattle.format.proofs.Blanks.{first_blank_tells, blanks_good, blanks_bad, blanks_many}
+use Rattle.std.proofs.Common.{◌≡◌, ℕ, ◌<◌, ◌+◌, ◌-◌, Bool, true, false, not, ◌&&◌, ltb, List, [], inl, length, get_or, sym, refl, ap, ◌∙◌, ⊎_elim, arith, rules}
+use Rattle.std.specs.Bool.{MatchBool}
+use Rattle.std.specs.List.{AllWithin, HoldsAt, enumerate_from}
+use Rattle.std.proofs.lemmas.Bool.{cases_lt, ltb-false, ltb-true, and_cases, and_parts, not-true, not-false}
+use Rattle.std.proofs.lemmas.Iterator.{cases_from_all}
+use Rattle.std.proofs.lemmas.Iterator.Consumers.{YieldsList-at, YieldsList-from_first, YieldsList-from_enumerate}
+use Rattle.std.proofs.lemmas.List.FromFn.{length-enumerate_from, get_or-enumerate_from}
+use borrow.Author.Tests.{tests}
+use Rattle.format.specs.Layout.{Bytes, record_of, record_count, records_from}
+use Rattle.format.specs.Checks.{some_nonzero, first_blank, blanks_wrong}
+use Rattle.format.specs.Reading.{records_left}
+use Rattle.format.proofs.Blanks.{blanks_good, blanks_bad, blanks_many}
+use Rattle.format.proofs.RecordsIn.{records_len, records_at}
 use Rattle.format.proofs.blocks.blanks_right.Goals as goal
-use Rattle.format.proofs.blocks.blanks_right.Goals.{In-Some}
 
--- the record that was read
-here : (c : In-Some) → c.in-Some.record.now ≡ record_of c.args.file.now (c.args.first + c.loop-record.blanks)
-here c = let read = c.in-Some.ensures.read.2 in cc (read, c.loop-record.invariant.0, c.loop-record.invariant.1)
+-- whether a record may stand behind so many blanks
+abbrev right : ℕ × Bytes → Bool
+right p = ltb p.0 8 && not (some_nonzero p.1)
 
-more : (c : In-Some) → c.args.first + c.loop-record.blanks < record_count c.args.file.now
-more c = rw (sym c.loop-record.invariant.0, sym c.loop-record.invariant.1) c.in-Some.ensures.read.0
+module _ (file : Bytes) where
+  abbrev first : ℕ
+  first = first_blank file
 
-pub loop-record-init : goal.loop-record-init
-loop-record-init c =
-    let within = (first_blank_tells c.args.file.now).within in
-    (c.at-reader.ensures.file, omega (arith, c.at-reader.ensures.place), omega arith, omega (arith, within, c.requires), λ k lt. absurd (omega arith))
+  abbrev numbered : List (ℕ × Bytes)
+  numbered = enumerate_from 0 (records_from file first)
 
-pub returns-then-not-blank_right : goal.returns-then-not-blank_right
-returns-then-not-blank_right c =
-    let at = (goal.at.returns-then-not-blank_right c).In-Some in
-    let file = c.args.file.now in
-    sym (ap not (⊎_elim
-    (λ many. blanks_many file (omega (arith, c.requires, more at, ltb-false c.loop-record.blanks 8 many)))
-    (λ nonzero. blanks_bad file (c.args.first + c.loop-record.blanks) (omega (arith, c.requires)) (more at) (sym (ap some_nonzero (here at)) ∙ not-false _ nonzero))
-    (and_cases (ltb c.loop-record.blanks 8) (not (some_nonzero c.in-Some.record.now)) (sym c.if-not-blank_right.ensures))))
+  -- as many as there are from the first blank on
+  count : length numbered ≡ record_count file - first
+  count = length-enumerate_from 0 (records_from file first) ∙ records_len file first
 
-pub loop-record-preserved : goal.loop-record-preserved
-loop-record-preserved c =
-    let at = (goal.at.loop-record-preserved c).In-Some in
-    let read = c.in-Some.ensures.read in
-    let right = and_parts (ltb c.loop-record.blanks 8) (not (some_nonzero c.in-Some.record.now)) (sym c.if-not-blank_right.ensures) in (
-      cc (c.in-Some.ensures.file, c.loop-record.invariant.0),
-      omega (arith, read.1, c.loop-record.invariant.1),
-      omega (arith, ltb-true c.loop-record.blanks 8 right.0),
-      omega (arith, more at),
-      below_more _ _ c.loop-record.invariant.4 (sym (ap some_nonzero (here at)) ∙ not-true _ right.1),
-    )
+  there : (k : ℕ) → k < record_count file - first → right (get_or numbered k (0, [])) ≡ (ltb k 8 && not (some_nonzero (record_of file (first + k))))
+  there k lt =
+      let same : 0 + k ≡ k = omega arith in
+      ap right (get_or-enumerate_from 0 (records_from file first) k (0, []) (omega (arith, records_len file first)))
+      ∙ (λ i. ltb (same i) 8 && not (some_nonzero (records_at file first k (first + k) [] lt refl i)))
+
+  tells : (r : Bool) → MatchBool r (AllWithin (λ p. right p ≡ true) numbered 0 (length numbered)) ((k : ℕ) × (k < length numbered) × HoldsAt (λ p. right p ≡ false) numbered k) → r ≡ not (blanks_wrong file)
+  tells true all =
+      let passes : (k : ℕ) → k < record_count file - first → (ltb k 8 ≡ true) × (not (some_nonzero (record_of file (first + k))) ≡ true) =
+      λ k lt. and_parts (ltb k 8) _ (sym (there k lt) ∙ all k (0, []) (omega arith) (omega (arith, count))) in
+      sym (ap not (blanks_good file
+      (λ k le lt.
+      let back : first + (k - first) ≡ k = omega arith in
+      ap (λ r. some_nonzero (record_of file r)) (sym back) ∙ not-true _ (passes (k - first) (omega arith)).1)
+      (⊎_elim (λ few. omega arith) (λ more. absurd (omega (arith, ltb-true 8 8 (passes 8 (omega arith)).0))) (cases_lt (record_count file) (first + 9)))))
+  tells false some =
+      let k = some.0 in
+      let inside : k < record_count file - first = omega (arith, some.1, count) in
+      sym (ap not (⊎_elim
+      (λ many. blanks_many file (omega (arith, ltb-false k 8 many)))
+      (λ nonzero. blanks_bad file (first + k) (omega arith) (omega arith) (not-false _ nonzero))
+      (and_cases (ltb k 8) _ (sym (there k inside) ∙ some.2 (0, [])))))
+
+pub all-requires-clause-can : goal.all-requires-clause-can
+all-requires-clause-can c = (tt, tt, inl (omega (arith, c.enumerate.ensures.count, records_len c.enumerate.result.iter.file.now c.enumerate.result.iter.place)))
 
 pub returns : goal.returns
 returns c =
     let file = c.args.file.now in
-    let done = rw (c.loop-record.invariant.0, c.loop-record.invariant.1) at c.in_default.ensures.read.0 in
-    sym (ap not (blanks_good file
-    (λ k le lt.
-    let back : c.args.first + (k - c.args.first) ≡ k = omega (arith, c.requires) in
-    ap (λ r. some_nonzero (record_of file r)) (sym back) ∙ c.loop-record.invariant.4 (k - c.args.first) (omega (arith, done, c.requires)))
-    (omega (arith, done, c.requires))))
+    tells file c.all.result
+    (cases_from_all c.all.new.self _ c.all.result (λ p. right p ≡ true) (λ p. right p ≡ false) c.all.ensures.ran
+    (YieldsList-from_enumerate
+    (YieldsList-at c.enumerate.ensures.source
+    (YieldsList-from_first (λ y. y.now) records_left {s = c.at.result} (records_from file (first_blank file)) (λ i. records_from (c.at.ensures.file i) ((c.at.ensures.place ∙ c.requires) i))))
+    c.enumerate.ensures.count)
+    (λ x q k. search (rules, tests)) (λ x q k. search (rules, tests)))

@@ -1,38 +1,34 @@
-use Rattle.std.proofs.Common.{◌≡◌, ◌<◌, sym, ap, ◌∙◌, arith, below_more}
-use Rattle.format.specs.Layout.{record_count, record_of, is_blank}
+use Rattle.std.proofs.Common.{◌≡◌, ℕ, ◌<◌, true, false, Some, None, Option, [], inl, length, sym, ap, ◌∙◌, arith, rules}
+use Rattle.std.specs.Option.{MatchOption, unwrap_or}
+use Rattle.std.specs.List.{AllWithin, HoldsAt}
+use Rattle.std.proofs.lemmas.Iterator.{IsFirst-from_position}
+use Rattle.std.proofs.lemmas.Iterator.Consumers.{YieldsList-from_first}
+use borrow.Author.Tests.{tests}
 use Rattle.numbers.proofs.BelowLaws.{first_is, first_none}
+use Rattle.format.specs.Layout.{Bytes, record_of, record_count, records_from, is_blank}
+use Rattle.format.specs.Checks.{first_blank}
+use Rattle.format.specs.Reading.{records_left}
+use Rattle.format.proofs.RecordsIn.{records_len, records_at}
 use Rattle.format.proofs.blocks.first_blank.Goals as goal
-use Rattle.format.proofs.blocks.first_blank.Goals.{In-Some}
 
--- the record that was read is the one at `first`
-here : (c : In-Some) → c.in-Some.record.now ≡ record_of c.args.file.now c.loop-record.first
-here c = let read = c.in-Some.ensures.read.2 in cc (read, c.loop-record.invariant.0, c.loop-record.invariant.1)
+first : (file : Bytes) (found : Option ℕ)
+    → MatchOption found (AllWithin (λ rec. is_blank rec ≡ false) (records_from file 0) 0 (length (records_from file 0)))
+    (λ i. (i < length (records_from file 0)) × HoldsAt (λ rec. is_blank rec ≡ true) (records_from file 0) i × AllWithin (λ rec. is_blank rec ≡ false) (records_from file 0) 0 i)
+    → unwrap_or found (record_count file) ≡ first_blank file
+first file None none =
+    sym (first_none (record_count file) (λ r. is_blank (record_of file r)) (λ k lt. ap is_blank (sym (records_at file 0 k k [] (omega arith) (omega arith))) ∙ none k [] (omega arith) (omega (arith, records_len file 0))))
+first file (Some i) found =
+    let inside : i < record_count file = omega (arith, found.0, records_len file 0) in
+    sym (first_is (record_count file) (λ r. is_blank (record_of file r)) i inside (ap is_blank (sym (records_at file 0 i i [] (omega arith) (omega arith))) ∙ found.1 [])
+    (λ k lt. ap is_blank (sym (records_at file 0 k k [] (omega arith) (omega arith))) ∙ found.2 k [] (omega arith) lt))
 
-more : (c : In-Some) → c.loop-record.first < record_count c.args.file.now
-more c = rw (sym c.loop-record.invariant.0, sym c.loop-record.invariant.1) c.in-Some.ensures.read.0
-
-pub returns-then-is_blank : goal.returns-then-is_blank
-returns-then-is_blank c =
-    let at = (goal.at.returns-then-is_blank c).In-Some in
-    let file = c.args.file.now in
-    sym (first_is (record_count file) (λ r. is_blank (record_of file r)) c.loop-record.first
-    (more at)
-    (sym (ap is_blank (here at)) ∙ sym c.if-is_blank.ensures)
-    c.loop-record.invariant.3)
-
-pub loop-record-preserved : goal.loop-record-preserved
-loop-record-preserved c =
-    let at = (goal.at.loop-record-preserved c).In-Some in
-    let read = c.in-Some.ensures.read in (
-      cc (c.in-Some.ensures.file, c.loop-record.invariant.0),
-      omega (arith, read.1, c.loop-record.invariant.1),
-      omega (arith, more at),
-      below_more _ _ c.loop-record.invariant.3 (sym (ap is_blank (here at)) ∙ sym c.if-is_blank.ensures),
-    )
+pub position-requires-clause-fits : goal.position-requires-clause-fits
+position-requires-clause-fits c = inl (omega (arith, records_len c.at.result.file.now c.at.result.place))
 
 pub returns : goal.returns
 returns c =
     let file = c.args.file.now in
-    let done = rw (c.loop-record.invariant.0, c.loop-record.invariant.1) at c.in_default.ensures.read.0 in
-    let all = first_none (record_count file) (λ r. is_blank (record_of file r)) (λ k lt. c.loop-record.invariant.3 k (omega (arith, done))) in
-    omega (arith, all, done, c.loop-record.invariant.2)
+    let h = IsFirst-from_position c.position.new.self _ c.position.result (λ rec. is_blank rec ≡ true) (λ rec. is_blank rec ≡ false) c.position.ensures.ran
+    (YieldsList-from_first (λ y. y.now) records_left {s = c.at.result} (records_from file 0) (λ i. records_from (c.at.ensures.file i) (c.at.ensures.place i)))
+    (λ x q k. search (rules, tests)) (λ x q k. search (rules, tests)) in
+    c.unwrap_or.ensures ∙ first file c.position.result h

@@ -1,9 +1,7 @@
-use Rattle.std.proofs.Common.{not, sym, ap, arith}
-use Rattle.format.proofs.Zeros.{nonzero_found, nonzero_none}
+use Rattle.std.proofs.Common.{not, eqb, length, get_or, rules}
+use Rattle.std.proofs.iter.runs.Made.{chains}
+use Rattle.format.proofs.Answered.{all_tells}
 use Rattle.format.proofs.bytes.all_zero.Goals as goal
 
-pub returns-then-b-ne0 : goal.returns-then-b-ne0
-returns-then-b-ne0 c = sym (ap not (nonzero_found c.args.part.now c.loop-b.b-index c.loop-b-test.true c.if-b-ne0.true))
-
 pub returns : goal.returns
-returns c = sym (ap not (nonzero_none c.args.part.now (λ k lt. c.loop-b.invariant k (omega arith))))
+returns c = let xs = c.args.part.now in all_tells (length xs) (λ k. not (eqb (get_or xs k 0) 0)) c.all.result (search (rules, chains))

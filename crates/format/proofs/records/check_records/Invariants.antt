@@ -7,10 +7,10 @@ use Rattle.format.proofs.records.check_records.Given as goal
 
 abbrev pub invariant-loop-record : goal.invariant-loop-record
 invariant-loop-record l =
-    (l.reader.file.now ≡ l.file)
-    × (l.reader.place ≤ record_count l.file)
-    × (l.ahead ≡ ahead_of l.file l.reader.place)
-    × (first_failing (each_below l.reader.place (record_checks_at l.file)) ≡ None)
+    (l.record-iterator.file.now ≡ l.file)
+    × (l.record-iterator.place ≤ record_count l.file)
+    × (l.ahead ≡ ahead_of l.file l.record-iterator.place)
+    × (first_failing (each_below l.record-iterator.place (record_checks_at l.file)) ≡ None)
 
 abbrev pub decreases-loop-record : goal.decreases-loop-record
-decreases-loop-record l = record_count l.file - l.reader.place
+decreases-loop-record l = record_count l.file - l.record-iterator.place

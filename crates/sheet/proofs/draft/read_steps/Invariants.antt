@@ -1,8 +1,10 @@
 use Rattle.std.proofs.Common.{◌≡◌, map}
-use Rattle.std.specs.List.{range_with_len}
-use Rattle.sheet.specs.FileDiagram.{mask_at}
+use Rattle.format.specs.Layout.{mask_of}
 use Rattle.sheet.specs.Standing.{masks_of}
 use Rattle.sheet.proofs.draft.read_steps.Given as goal
 
-abbrev pub invariant-loop-n : goal.invariant-loop-n
-invariant-loop-n l = masks_of l.steps ≡ map (mask_at l.file) (range_with_len 0 l.n)
+abbrev pub invariant-loop-record : goal.invariant-loop-record
+invariant-loop-record l =
+    (goal.iterator-loop-record).can_next l.record-iterator
+    × (goal.iterator-loop-record).is_finite l.record-iterator
+    × (masks_of l.steps ≡ map (λ rec. mask_of rec.now) l.yielded)
