@@ -2,6 +2,8 @@
 ghost use Rattle.std.specs.Prelude.{◌≡◌};
 ghost use Rattle.analysis.specs.Parties.{members};
 
+use crate::bits::bit;
+
 // A mask of eight bits, in which bit p stands for party p.
 #[derive(Clone, Copy, Debug, PartialEq, Eq)]
 pub struct Parties {
@@ -13,6 +15,6 @@ impl Parties {
     pub fn has(self, party: u8) -> bool
         ensures { result ≡ members self party }
     {
-        party < 8 && (self.mask >> party) % 2 == 1
+        party < 8 && bit(u64::from(self.mask), party)
     }
 }

@@ -1,12 +1,12 @@
 // Definitions as a kind of label.
-ghost use Rattle.std.specs.Prelude.{◌≡◌, ◌<◌};
+ghost use Rattle.std.specs.Prelude.{◌≡◌};
 ghost use Rattle.std.specs.Bool.{then_some};
 ghost use Rattle.analysis.specs.declared.definitions.Definitions.{Definitions};
-ghost use Rattle.numbers.specs.Bits.{bit};
 ghost use Rattle.analysis.specs.DefinitionsAlgebra.{definitions_algebra, all_kept, confined, spelled};
 ghost use Rattle.analysis.specs.Parties.{members};
 ghost use Rattle.analysis.specs.DefinitionsLaws.{definitions_laws};
 
+use crate::bits::bit;
 use crate::definitions::Definitions;
 use crate::kind::Kind;
 use crate::label_bytes::bytes_at;
@@ -20,14 +20,6 @@ const SITES_OF_PARTY: u8 = 8;
 const KEEP_AT: usize = 16;
 
 const GENS_AT: usize = 24;
-
-// Whether the site is among the sites.
-fn has(sites: u64, site: u8) -> bool
-    requires { site < 64 }
-    ensures { result ≡ bit sites site }
-{
-    (sites >> site) % 2 == 1
-}
 
 impl Definitions {
     // Every site kept, and none defined.
@@ -45,7 +37,7 @@ impl Definitions {
         ensures { result ≡ confined self (members parties) }
     {
         (0..SITES).all(|site| {
-            parties.has(site / SITES_OF_PARTY) || has(self.keep, site) && !has(self.gens, site)
+            parties.has(site / SITES_OF_PARTY) || bit(self.keep, site) && !bit(self.gens, site)
         })
     }
 

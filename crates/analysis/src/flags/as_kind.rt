@@ -8,6 +8,7 @@ ghost use Rattle.analysis.specs.FlagsMeaning.{CompositionIsRelational, WorkedCom
 ghost use Rattle.analysis.specs.FlagsLaws.{flags_laws};
 ghost use Rattle.analysis.specs.LabelBytes.{relation_in};
 
+use crate::bits::bit;
 use crate::flags::Flags;
 use crate::flags::pair::{Flag, Pair, VALUES};
 use crate::kind::Kind;
@@ -29,7 +30,7 @@ impl Flags {
     fn may(self, pair: Pair) -> bool
         ensures { result ≡ may self.relation pair.from pair.to }
     {
-        (self.relation >> (VALUES * pair.from + pair.to)) % 2 == 1
+        bit(self.relation, VALUES * pair.from + pair.to)
     }
 
     // Whether it may by this and then the other relation.
