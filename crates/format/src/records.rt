@@ -21,7 +21,8 @@ pub struct Contents {
     pub outcomes: usize,
 }
 
-// What lies ahead of a record: how many records, steps and outcomes, and the step of the outcome just ahead, or 0.
+// What lies ahead of a record: how many records, steps and outcomes, and the step of the outcome just ahead.
+// The last is 0 where there is none, which no step is below: as an `Option` it would be asked for just that 0.
 #[derive(Clone, Copy, Default)]
 struct Ahead {
     records: usize,

@@ -1,4 +1,4 @@
-// What the diagram layer takes out of a record.
+// What the diagram layer takes out of a record: by functions, since `From` may stand only beside the types, in other crates.
 ghost use Rattle.std.specs.Prelude.{◌≡◌};
 ghost use Rattle.format.specs.Layout.{mask_of};
 ghost use Rattle.sheet.specs.FileDiagram.{row_in, label_bytes};

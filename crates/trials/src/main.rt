@@ -4,7 +4,7 @@
 
 use format::faults::{BlockCause, Fault, RecordCause};
 use format::names::name;
-use format::records::{Contents, check_records};
+use format::records::check_records;
 use std::alloc::{AllocError, Global};
 use std::{fs, io};
 
@@ -89,10 +89,7 @@ struct Trial<'a> {
 
 impl<'a> Trial<'a> {
     fn new(alloc: Global, file: &'a [u8]) -> Result<Trial<'a>, AllocError> {
-        let contents = check_records(file).unwrap_or(Contents {
-            steps: 0,
-            outcomes: 0,
-        });
+        let contents = check_records(file).unwrap_or_default();
         Ok(Trial {
             file,
             copy: file.to_vec(alloc)?,

@@ -1,5 +1,5 @@
 // Listing steps, one behind the other.
-ghost use Rattle.std.specs.Prelude.{◌≡◌, ◌<◌, [], ◌∷◌, ◌++◌, length, slice_index};
+ghost use Rattle.std.specs.Prelude.{◌≡◌, ◌<◌, ◌≤◌, MatchOption, [], ◌∷◌, ◌++◌, length, slice_index};
 ghost use Rattle.sheet.specs.Standing.{masks_of};
 
 use crate::steps::Steps;
@@ -35,11 +35,12 @@ impl Steps {
         self.count
     }
 
-    // The parties of a step; nobody where there is no such step.
-    pub(crate) fn of(&self, step: usize) -> Parties
-        ensures { result.mask ≡ slice_index (masks_of self.now) step }
+    // The parties of a step; none where there is no such step.
+    pub(crate) fn get(&self, step: usize) -> Option<Parties>
+        ensures { MatchOption result
+            (length (masks_of self.now) ≤ step)
+            (λ parties. (step < length (masks_of self.now)) × (parties.mask ≡ slice_index (masks_of self.now) step)) }
     {
-        let parties = &self.parties[..self.count];
-        parties.get(step).copied().unwrap_or(NOBODY)
+        self.parties[..self.count].get(step).copied()
     }
 }
