@@ -4,7 +4,7 @@ ghost use Rattle.sheet.specs.Recorded.{Recorded};
 
 use format::records::Contents;
 
-pub mod checking;
+mod checking;
 
 // The file, and how many steps and outcomes it records.
 #[derive(Clone, Copy)]

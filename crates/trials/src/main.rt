@@ -6,7 +6,7 @@ use format::faults::{BlockCause, Fault, RecordCause};
 use format::names::name;
 use format::records::check_records;
 use std::alloc::{AllocError, Global};
-use std::{fs, io};
+use std::{fmt, fs, io};
 
 // A block is a header, the records, and the check of all before it.
 const BLOCK: usize = 512;
@@ -31,11 +31,22 @@ fn refusal(file: &[u8]) -> Option<Fault> {
     name(file, 0).err()
 }
 
-// The number, layer and place of a refusal, to be printed; all 0 where there is none.
-fn triple(refusal: Option<Fault>) -> (u8, u8, usize) {
-    refusal.map_or((0, 0, 0), |fault| {
-        (fault.number(), fault.layer(), fault.place())
-    })
+// A refusal as it is printed: its number, layer and place, all 0 where there is none.
+#[derive(Clone, Copy)]
+struct Told(Option<Fault>);
+
+impl fmt::Display for Told {
+    fn fmt<W: fmt::Write>(&self, f: &mut fmt::Formatter<W>) -> fmt::Result {
+        match self.0 {
+            Some(fault) => {
+                let number = fault.number();
+                let layer = fault.layer();
+                let place = fault.place();
+                write!(f, "({number}, {layer}, {place})")
+            }
+            None => f.write_str("(0, 0, 0)"),
+        }
+    }
 }
 
 // Writes the check of a block anew: the sum of the bytes before it, each times its place from 1.
@@ -162,11 +173,11 @@ fn main(rt: HostRuntime) -> io::Result<()> {
     let records = trial.records;
     println!(rt; "fitting.knee: {bytes} bytes, {records} records")?;
     let long = vec![in rt.alloc(); 0u8; 9728]?;
-    let told = triple(refusal(long.as_slice()));
-    println!(rt; "length 9728: {told:?}")?;
-    let eight = triple(refusal(&lone_block(&[step()])));
-    let nine = triple(refusal(&lone_block(&[])));
-    println!(rt; "eight blanks: {eight:?}, nine blanks: {nine:?}")?;
+    let told = Told(refusal(long.as_slice()));
+    println!(rt; "length 9728: {told}")?;
+    let eight = Told(refusal(&lone_block(&[step()])));
+    let nine = Told(refusal(&lone_block(&[])));
+    println!(rt; "eight blanks: {eight}, nine blanks: {nine}")?;
     let renamings = [
         (13, None, "taken"),
         (14, Some(RecordCause::Name), "refused by 7 at their record"),
