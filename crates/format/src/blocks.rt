@@ -41,7 +41,7 @@ fn header_right(block: &[u8; BLOCK], position: usize, count: usize) -> bool
 fn length_right(len: usize) -> bool
     ensures { result ≡ not (wrong_length len) }
 {
-    len % BLOCK == 0 && len >= BLOCK && len <= BLOCK * MOST_BLOCKS
+    len % BLOCK == 0 && (BLOCK..=BLOCK * MOST_BLOCKS).contains(&len)
 }
 
 // The checks of one block, in their order.

@@ -36,7 +36,7 @@ fn name_byte_right(len: u8, i: usize, b: u8) -> bool
     ensures { result ≡ not (wrong_name_byte len i b) }
 {
     if i < usize::from(len) {
-        b >= FIRST_PRINTABLE && b <= LAST_PRINTABLE
+        (FIRST_PRINTABLE..=LAST_PRINTABLE).contains(&b)
     } else {
         b == 0
     }
