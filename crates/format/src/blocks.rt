@@ -1,5 +1,5 @@
 // Layer 1: the file's length, each block's check and header, the blanks.
-ghost use Rattle.std.specs.Prelude.{◌≡◌, not, ◌&&◌, nat_lt};
+ghost use Rattle.std.specs.Prelude.{◌≡◌, not, ◌&&◌, nat_lt, MatchOption};
 ghost use Rattle.format.specs.Layout.{check_sum, record_count};
 ghost use Rattle.format.specs.Refusals.{refusal_in, first_failing};
 ghost use Rattle.format.specs.Checks.{wrong_length, wrong_check, wrong_header, some_nonzero, first_blank, blanks_wrong, block_checks, block_layer};
@@ -9,7 +9,7 @@ use crate::bytes::all_zero;
 use crate::checks::ensure;
 use crate::faults::{BlockCause, Fault};
 use crate::kinds::is_blank;
-use crate::layout::{BLOCK, MOST_BLANKS, MOST_BLOCKS, RECORDS_IN_BLOCK, SUMMED};
+use crate::layout::{BLOCK, MOST_BLANKS, MOST_BLOCKS, SUMMED};
 use crate::reader::Reader;
 
 // The sum that the block's check should hold.
@@ -56,13 +56,13 @@ fn check_block(block: &[u8; BLOCK], position: usize, count: usize) -> Result<(),
     )
 }
 
-// The first record of kind 0, or how many records there are.
-fn first_blank(file: &[u8]) -> usize
-    ensures { result ≡ first_blank file.now }
+// The place of the first record of kind 0, if there is one.
+fn first_blank(file: &[u8]) -> Option<usize>
+    ensures { MatchOption result
+        (first_blank file.now ≡ record_count file.now)
+        (λ first. first ≡ first_blank file.now) }
 {
-    Reader::at(file, 0)
-        .position(|rec| is_blank(rec))
-        .unwrap_or(RECORDS_IN_BLOCK * (file.len() / BLOCK))
+    Reader::at(file, 0).position(|rec| is_blank(rec))
 }
 
 // Whether a record may stand behind that many blanks.
@@ -91,8 +91,10 @@ pub fn check_blocks(file: &[u8]) -> Result<(), Fault>
     for (position, block) in blocks.iter().enumerate() {
         check_block(block, position, blocks.len())?;
     }
-    let first = first_blank(file);
-    ensure(blanks_right(file, first), BlockCause::Blank, first)
+    match first_blank(file) {
+        Some(first) => ensure(blanks_right(file, first), BlockCause::Blank, first),
+        None => Ok(()),
+    }
 }
 
 // The check sees any one changed byte.

@@ -4,10 +4,11 @@ use Rattle.std.proofs.lemmas.Bool.{cond-false}
 use Rattle.format.specs.declared.faults.Fault.TheVariants.{Block}
 use Rattle.format.specs.declared.faults.BlockCause.TheVariants.{Length, Blank}
 use Rattle.format.specs.Layout.{block_count, block_of}
-use Rattle.format.specs.Checks.{wrong_length, first_blank, blanks_wrong, block_checks, block_checks_at}
+use Rattle.format.specs.Checks.{wrong_length, first_blank, blanks_wrong, block_checks, block_checks_at, block_layer}
 use Rattle.format.specs.Refusals.{refusal_in, first_failing, block_check, check_of}
 use Rattle.numbers.specs.Below.{each_below}
 use Rattle.format.proofs.First.{past, stops, same_check, none_first, each_none, each_more, each_stops}
+use Rattle.format.proofs.Blanks.{blanks_good}
 use Rattle.format.proofs.RecordsIn.{block_in}
 use Rattle.format.proofs.blocks.check_blocks.Goals as goal
 use Rattle.format.proofs.blocks.check_blocks.Goals.{After-loop-position, After-check_block, In_ok-ensure}
@@ -45,12 +46,25 @@ loop-position-preserved c =
     each_more c.loop-position.position (block_checks_at c.args.file.now) c.loop-position.invariant
     ∙ sym (same_block (goal.at.loop-position-preserved c).After-check_block) ∙ ap refusal_in c.in_ok-check_block.was
 
-pub returns : goal.returns
-returns c =
+-- only the blank rule is left to fail
+through : (c : After-loop-position) → first_failing (block_layer c.args.file.now) ≡ first_failing (block_check 4 (first_blank c.args.file.now) (blanks_wrong c.args.file.now) ∷ [])
+through c =
     let file = c.args.file.now in
     let all : c.loop-position.position ≡ block_count file = omega (arith, c.as_chunks.ensures.front_len) in
-    c.ensure-2.ensures
-    ∙ same_check (Block Blank c.first_blank-first.result) c.blanks_right.result _ c.blanks_right.ensures
-    ∙ ap (λ first. first_failing (block_check 4 first (blanks_wrong file) ∷ [])) c.first_blank-first.ensures
-    ∙ sym (cond-false (wrong_length (length file)) _ _ (fits (goal.at.returns c).In_ok-ensure)
-    ∙ past (each_below (block_count file) (block_checks_at file)) _ (ap (λ n. first_failing (each_below n (block_checks_at file))) (sym all) ∙ c.loop-position.invariant))
+    cond-false (wrong_length (length file)) _ _ (fits (goal.at.After-loop-position c).In_ok-ensure)
+    ∙ past (each_below (block_count file) (block_checks_at file)) _ (ap (λ n. first_failing (each_below n (block_checks_at file))) (sym all) ∙ c.loop-position.invariant)
+
+pub returns-in-Some : goal.returns-in-Some
+returns-in-Some c =
+    let file = c.args.file.now in
+    c.ensure-in-Some.ensures
+    ∙ same_check (Block Blank c.in-Some.first) _ _ c.blanks_right.ensures
+    ∙ ap (λ first. first_failing (block_check 4 first (blanks_wrong file) ∷ [])) c.in-Some.ensures
+    ∙ sym (through (goal.at.returns-in-Some c).After-loop-position)
+
+pub returns-in-None : goal.returns-in-None
+returns-in-None c =
+    let file = c.args.file.now in
+    let none = c.in-None.ensures in
+    let right = blanks_good file (λ k le lt. absurd (omega arith)) (omega arith) in
+    sym (through (goal.at.returns-in-None c).After-loop-position ∙ cond-false (blanks_wrong file) _ _ right)

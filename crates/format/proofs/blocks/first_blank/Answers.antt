@@ -1,5 +1,5 @@
 use Rattle.std.proofs.Common.{◌≡◌, ℕ, ◌<◌, true, false, Some, None, Option, [], inl, length, sym, ap, ◌∙◌, arith, rules}
-use Rattle.std.specs.Option.{MatchOption, unwrap_or}
+use Rattle.std.specs.Option.{MatchOption}
 use Rattle.std.specs.List.{AllWithin, HoldsAt}
 use Rattle.std.proofs.lemmas.Iterator.{IsFirst-from_position}
 use Rattle.std.proofs.lemmas.Iterator.Consumers.{YieldsList-from_first}
@@ -14,9 +14,9 @@ use Rattle.format.proofs.blocks.first_blank.Goals as goal
 first : (file : Bytes) (found : Option ℕ)
     → MatchOption found (AllWithin (λ rec. is_blank rec ≡ false) (records_from file 0) 0 (length (records_from file 0)))
     (λ i. (i < length (records_from file 0)) × HoldsAt (λ rec. is_blank rec ≡ true) (records_from file 0) i × AllWithin (λ rec. is_blank rec ≡ false) (records_from file 0) 0 i)
-    → unwrap_or found (record_count file) ≡ first_blank file
+    → MatchOption found (first_blank file ≡ record_count file) (λ i. i ≡ first_blank file)
 first file None none =
-    sym (first_none (record_count file) (λ r. is_blank (record_of file r)) (λ k lt. ap is_blank (sym (records_at file 0 k k [] (omega arith) (omega arith))) ∙ none k [] (omega arith) (omega (arith, records_len file 0))))
+    first_none (record_count file) (λ r. is_blank (record_of file r)) (λ k lt. ap is_blank (sym (records_at file 0 k k [] (omega arith) (omega arith))) ∙ none k [] (omega arith) (omega (arith, records_len file 0)))
 first file (Some i) found =
     let inside : i < record_count file = omega (arith, found.0, records_len file 0) in
     sym (first_is (record_count file) (λ r. is_blank (record_of file r)) i inside (ap is_blank (sym (records_at file 0 i i [] (omega arith) (omega arith))) ∙ found.1 [])
@@ -31,4 +31,4 @@ returns c =
     let h = IsFirst-from_position c.position.new.self _ c.position.result (λ rec. is_blank rec ≡ true) (λ rec. is_blank rec ≡ false) c.position.ensures.ran
     (YieldsList-from_first (λ y. y.now) records_left {s = c.at.result} (records_from file 0) (λ i. records_from (c.at.ensures.file i) (c.at.ensures.place i)))
     (λ x q k. search (rules, tests)) (λ x q k. search (rules, tests)) in
-    c.unwrap_or.ensures ∙ first file c.position.result h
+    first file c.position.result h
