@@ -1,5 +1,5 @@
 -- A part of the file, as `&file[at..at + n]` gives it.
-use Rattle.std.proofs.Common.{◌≡◌, ℕ, ◌+◌, ◌-◌, ◌<◌, ◌≤◌, length, take, drop, ap, ◌∙◌, arith, length-drop, length-take, length-take-le}
+use Rattle.std.proofs.Common.{◌≡◌, ℕ, ◌+◌, ◌-◌, ◌<◌, ◌≤◌, length, take, drop, ap, ◌∙◌, arith, length-drop, length-take-le}
 use Rattle.std.proofs.lemmas.List.{get_or-take, get_or-drop, drop-take, drop-drop, take-take}
 use Rattle.format.specs.Layout.{Bytes, byte, part}
 
@@ -8,10 +8,6 @@ length_part bs at n fits = length-take-le n (drop at bs) (omega (arith, length-d
 
 pub byte_part : (bs : Bytes) (at n i : ℕ) → i < n → byte (part bs at n) i ≡ byte bs (at + i)
 byte_part bs at n i lt = get_or-take n (drop at bs) i 0 lt ∙ get_or-drop at bs i 0
-
--- a byte within the first n
-pub byte_take : (n : ℕ) (bs : Bytes) (i : ℕ) → i < length (take n bs) → byte (take n bs) i ≡ byte bs i
-byte_take n bs i lt = get_or-take n bs i 0 (omega (arith, length-take n bs))
 
 -- a part of a part
 pub part_part : (bs : Bytes) (at n i m : ℕ) → i + m ≤ n → part (part bs at n) i m ≡ part bs (at + i) m

@@ -7,6 +7,7 @@ pub mod Blanks
 pub mod Cuts
 pub mod Tests
 pub mod RecordLayer
+pub mod Weighted
 pub mod OneByte
 pub mod OneByteInFile
 pub mod InOrder

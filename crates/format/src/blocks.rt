@@ -16,11 +16,11 @@ use crate::reader::Reader;
 fn weighted_sum(block: &[u8; BLOCK]) -> u32
     ensures { result ≡ check_sum block.now }
 {
-    let mut sum = 0;
-    for (i, byte) in block[..SUMMED].iter().enumerate() {
-        sum += (i as u32 + 1) * u32::from(*byte);
-    }
-    sum
+    block[..SUMMED]
+        .iter()
+        .enumerate()
+        .map(|(i, byte)| (i as u32 + 1) * u32::from(*byte))
+        .sum()
 }
 
 fn check_right(block: &[u8; BLOCK]) -> bool

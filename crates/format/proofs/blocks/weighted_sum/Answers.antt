@@ -1,30 +1,30 @@
-use Rattle.std.proofs.Common.{◌≡◌, ℕ, ◌+◌, ◌*◌, ◌≤◌, refl, ap, ◌∙◌, arith}
-use Rattle.std.proofs.lemmas.Nat.{mul-le}
-use Rattle.numbers.specs.Below.{sum_below}
-use Rattle.format.specs.Layout.{byte}
-use Rattle.numbers.proofs.BelowLaws.{sum_more}
-use Rattle.format.proofs.Cuts.{byte_take}
+use Rattle.std.proofs.Common.{◌<◌, ◌^◌, take, ◌∙◌, List, ℕ, arith, rules}
+use Rattle.std.specs.List.{enumerate_from, sum_by}
+use Rattle.std.proofs.lemmas.Iterator.{YieldsList-from_slice, YieldsList-from_map}
+use Rattle.std.proofs.lemmas.Iterator.Consumers.{YieldsList-at, YieldsList-from_enumerate, sum_by_from_yields_List, fits_by_from_yields_list}
+use borrow.Author.Tests.{tests}
+use Rattle.format.specs.Layout.{Bytes}
+use Rattle.format.proofs.Weighted.{weighted, chain_adds, sum_few}
 use Rattle.format.proofs.blocks.weighted_sum.Goals as goal
-use Rattle.format.proofs.blocks.weighted_sum.Goals.{After-from}
 
-here : (c : After-from) → c.from.result ≡ byte c.args.block.now c.loop-i.i
-here c = c.from.ensures ∙ byte_take 508 c.args.block.now c.loop-i.i c.loop-i-test.true
+abbrev placed : Bytes → List (ℕ × ℕ)
+placed block = enumerate_from 0 (take 508 block)
 
--- no weighted byte exceeds 508 × 255
-few : (c : After-from) → (c.loop-i.i + 1) * c.from.result ≤ 129540
-few c = mul-le (c.loop-i.i + 1) c.from.result 508 255 (omega arith) (omega (arith, here c, c.fits-block c.loop-i.i))
+pub sum-requires-clause-fits : goal.sum-requires-clause-fits
+sum-requires-clause-fits c =
+    let block = c.args.block.now in
+    let few : sum_by weighted (placed block) < 2 ^ 32 = omega (arith, chain_adds block 508 (omega arith), sum_few block 508 (omega arith) c.fits-block) in
+    fits_by_from_yields_list weighted (placed block) c.map.result (2 ^ 32)
+    (YieldsList-from_map _ weighted
+    (YieldsList-at c.map.ensures.source (YieldsList-from_enumerate (YieldsList-at c.enumerate.ensures.source (YieldsList-from_slice (take 508 block) c.iter.ensures.rest)) c.enumerate.ensures.count))
+    c.map.ensures.closure (λ x r q k. search (rules, tests)))
+    few
 
-pub loop-i-init : goal.loop-i-init
-unfolding sum_below
-loop-i-init c = (refl, omega arith)
-
-pub overflow_add-sum-in-loop-i : goal.overflow_add-sum-in-loop-i
-overflow_add-sum-in-loop-i c = omega (arith, few c)
-
-pub loop-i-preserved : goal.loop-i-preserved
-loop-i-preserved c =
-    let weighted : ℕ → ℕ = λ i. (i + 1) * byte c.args.block.now i in
-    let added : (c.loop-i.i + 1) * c.from.result ≡ weighted c.loop-i.i = ap (λ b. (c.loop-i.i + 1) * b) (here c) in
-    let sofar : c.loop-i.sum ≡ sum_below c.loop-i.i weighted = c.loop-i.invariant.0 in
-    let more = sum_more c.loop-i.i weighted in
-    (omega (arith, added, sofar, more), omega (arith, few c))
+pub returns : goal.returns
+returns c =
+    let block = c.args.block.now in
+    sum_by_from_yields_List weighted (placed block) c.map.result c.sum.result c.sum.ensures.ran
+    (YieldsList-from_map _ weighted
+    (YieldsList-at c.map.ensures.source (YieldsList-from_enumerate (YieldsList-at c.enumerate.ensures.source (YieldsList-from_slice (take 508 block) c.iter.ensures.rest)) c.enumerate.ensures.count))
+    c.map.ensures.closure (λ x r q k. search (rules, tests)))
+    ∙ chain_adds block 508 (omega arith)
