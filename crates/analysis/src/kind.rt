@@ -31,7 +31,7 @@ pub trait Kind: Sized {
     fn belongs(&self, parties: Parties) -> bool
         ensures { result ≡ algebra.belongs (value self.now) (members parties) };
 
-    // Whether the label bytes of an outcome suit the set.
+    // Whether the label bytes of an outcome suit the set; the two stand apart, since kinds of others say this trait's functions.
     fn suits(bytes: &[u8; 32], parties: Parties) -> bool
         ensures { result ≡ algebra.suits bytes.now (members parties) };
 

@@ -60,6 +60,7 @@ impl From<CallCause> for Fault {
 }
 
 impl Fault {
+    // By cases, in the order of docs/REFUSALS.md: there a number is looked up by its cause.
     pub fn number(&self) -> u8
         ensures { result ≡ number_of self.now }
     {
@@ -93,6 +94,7 @@ impl Fault {
         }
     }
 
+    // 0 where there is none: a caller is promised a number in each case.
     pub fn place(&self) -> usize
         ensures { result ≡ place_of self.now }
     {

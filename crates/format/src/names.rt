@@ -21,7 +21,7 @@ fn name_in(rec: &[u8; RECORD]) -> &[u8]
 }
 
 // The record of that number, if it is there and not blank.
-fn record_at(file: &[u8], number: usize) -> Option<&[u8; RECORD]>
+fn find_record(file: &[u8], number: usize) -> Option<&[u8; RECORD]>
     ensures { MatchOption result
         (no_such_record file.now number ≡ true)
         (λ rec. (no_such_record file.now number ≡ false) × (rec.now ≡ record_of file.now number)) }
@@ -36,6 +36,6 @@ pub fn name(file: &[u8], number: usize) -> Result<&[u8], Fault>
     ensures guarded { OneChangedByteIsRefused file.now number }
 {
     let _ = check_records(file)?;
-    let record = record_at(file, number).ok_or(CallCause::NoRecord)?;
+    let record = find_record(file, number).ok_or(CallCause::NoRecord)?;
     Ok(name_in(record))
 }

@@ -81,6 +81,7 @@ impl Ahead {
     fn check(&self, rec: &[u8; RECORD]) -> Result<(), Fault>
         ensures { refusal_in result ≡ first_failing (record_checks self.now rec.now) }
     {
+        // The slice, which always has two bytes: what such a pattern takes of an array can't be taken apart in turn.
         let [kind, step, rest @ ..] = &rec[..] else {
             unreachable()
         };

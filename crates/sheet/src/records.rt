@@ -18,12 +18,10 @@ pub(crate) fn parties_in(rec: &[u8; 56]) -> Parties
 pub(crate) fn row_in(rec: &[u8; 56]) -> Row
     ensures { result ≡ row_in rec.now }
 {
-    let [_kind, step, rest @ ..] = &rec[..] else {
-        unreachable()
-    };
+    let [_kind, step, ..] = *rec;
     Row {
-        step: *step,
-        to: *rest.first_chunk().unwrap(),
+        step,
+        to: *rec[2..].first_chunk().unwrap(),
     }
 }
 
@@ -31,8 +29,5 @@ pub(crate) fn row_in(rec: &[u8; 56]) -> Row
 pub(crate) fn label_bytes(rec: &[u8; 56]) -> [u8; 32]
     ensures { result ≡ label_bytes rec.now }
 {
-    let [_kind, _step, rest @ ..] = &rec[..] else {
-        unreachable()
-    };
-    *rest[8..].first_chunk().unwrap()
+    *rec[10..].first_chunk().unwrap()
 }

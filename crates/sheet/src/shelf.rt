@@ -36,6 +36,7 @@ impl<'a, K: Drop> Shelf<'a, K> {
         ensures labels { self.new.places.now ≡ slice_set self.old.places.now row label }
         ensures lender { self.new.places.ghost_name ≡ self.old.places.ghost_name }
     {
+        // By index: of the places behind a `get_mut` the check is told nothing.
         if row < self.places.len() {
             self.places[row] = label;
         }

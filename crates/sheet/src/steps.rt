@@ -6,8 +6,7 @@ use analysis::parties::Parties;
 mod listing;
 
 // The steps below `count`, the last of which is the end, by their parties; a step that was struck has none.
-// A buffer with its length, since there is no heap and a sheet is `Copy`: the library's `ArrayVec` is not, and the view
-// of a `Copy` type has to give the fields back.
+// A buffer with its length, since there is no heap and a sheet is `Copy`, which the library's `ArrayVec` is not.
 #[derive(Clone, Copy)]
 pub struct Steps {
     count: usize,

@@ -108,32 +108,37 @@ impl<'a> Trial<'a> {
         })
     }
 
-    // Byte by byte, since `copy_from_slice` takes only what is known to be as long.
-    fn restore(&mut self) {
+    // Why the file is refused, if it is, once the change is made in it.
+    fn refused_with<F: FnOnce(&mut [u8])>(&mut self, change: F) -> Option<Fault>
+        requires { F.IsAlwaysCallable change }
+    {
+        // Byte by byte, since `copy_from_slice` takes only what is known to be as long.
         for (byte, original) in self.copy.iter_mut().zip(self.file) {
             *byte = *original;
         }
+        change(self.copy.as_mut_slice());
+        refusal(self.copy.as_slice())
     }
 
-    // Why the copy is refused, if it is, once a record's name has `length` letters.
+    // Why it is refused, if it is, once a record's name has `length` letters.
     fn renamed(&mut self, record: usize, length: u8) -> Option<Fault> {
-        self.restore();
-        let (blocks, _) = self.copy.as_mut_slice().as_chunks_mut::<BLOCK>();
-        if let Some(block) = blocks.get_mut(record / RECORDS) {
-            let (records, _) = block[HEADER..CHECK].as_chunks_mut::<RECORD>();
-            rename(&mut records[record % RECORDS], length);
-            seal(block);
-        }
-        refusal(self.copy.as_slice())
+        self.refused_with(|copy| {
+            let (blocks, _) = copy.as_chunks_mut::<BLOCK>();
+            if let Some(block) = blocks.get_mut(record / RECORDS) {
+                let (records, _) = block[HEADER..CHECK].as_chunks_mut::<RECORD>();
+                rename(&mut records[record % RECORDS], length);
+                seal(block);
+            }
+        })
     }
 
-    // Why the copy is refused, if it is, once one byte is another.
+    // Why it is refused, if it is, once one byte is another.
     fn changed(&mut self, at: usize, byte: u8) -> Option<Fault> {
-        self.restore();
-        if let Some(place) = self.copy.get_mut(at) {
-            *place = byte;
-        }
-        refusal(self.copy.as_slice())
+        self.refused_with(|copy| {
+            if let Some(place) = copy.get_mut(at) {
+                *place = byte;
+            }
+        })
     }
 
     // How many records, once renamed, are refused at their own place for the cause, or taken where

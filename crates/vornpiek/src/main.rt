@@ -22,7 +22,8 @@ fn print_name(out: &mut impl Write, file: &[u8], number: usize) -> Result<(), Fa
     Ok(())
 }
 
-// A line for each record that is not blank: its number, by which it is asked for, and its name.
+// A line for each record that is not blank: its number and its name.
+// The loop is over numbers, since a number is printed and a record is asked for by it.
 fn print_names(out: &mut impl Write, file: &[u8]) -> Result<(), Failure> {
     let contents = check_records(file)?;
     for number in 0..contents.steps.saturating_add(contents.outcomes) {

@@ -2,7 +2,7 @@
 ghost use Rattle.std.specs.Prelude.{◌≡◌};
 ghost use Rattle.std.specs.Bool.{then_some};
 ghost use Rattle.analysis.specs.declared.definitions.Definitions.{Definitions};
-ghost use Rattle.analysis.specs.DefinitionsAlgebra.{definitions_algebra, all_kept, confined, spelled};
+ghost use Rattle.analysis.specs.DefinitionsAlgebra.{definitions_algebra, confined, spelled};
 ghost use Rattle.analysis.specs.Parties.{members};
 ghost use Rattle.analysis.specs.DefinitionsLaws.{definitions_laws};
 
@@ -22,16 +22,6 @@ const KEEP_AT: usize = 16;
 const GENS_AT: usize = 24;
 
 impl Definitions {
-    // Every site kept, and none defined.
-    fn all_kept() -> Definitions
-        ensures { result ≡ all_kept }
-    {
-        Definitions {
-            keep: u64::MAX,
-            gens: 0,
-        }
-    }
-
     // Whether each site's owner is in the set, or else the site is left as it was.
     fn confined(self, parties: Parties) -> bool
         ensures { result ≡ confined self (members parties) }
@@ -62,8 +52,12 @@ impl Kind for Definitions {
 
     ghost lawful = { definitions_laws };
 
+    // Every site kept, and none defined.
     fn unit() -> Definitions {
-        Self::all_kept()
+        Definitions {
+            keep: u64::MAX,
+            gens: 0,
+        }
     }
 
     fn then(&self, other: &Definitions) -> Definitions {
@@ -89,7 +83,7 @@ impl Kind for Definitions {
     }
 
     fn make(bytes: &[u8; 32], parties: Parties) -> Definitions {
-        Self::spelled_for(bytes, parties).unwrap_or(Self::all_kept())
+        Self::spelled_for(bytes, parties).unwrap_or(Self::unit())
     }
 
     fn tell(&self) -> (u64, u64) {

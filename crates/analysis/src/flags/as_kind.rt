@@ -63,7 +63,8 @@ impl Flags {
 
     // The label in the label bytes, if it stays within the set.
     fn spelled_for(bytes: &[u8; 32], parties: Parties) -> Option<Flags>
-        ensures { let suits = stays_within (relation_in bytes.now) (members parties) in MatchOption result (suits ≡ false) (λ x. (suits ≡ true) × (x.relation ≡ relation_in bytes.now)) }
+        ensures { let suits = stays_within (relation_in bytes.now) (members parties) in
+            MatchOption result (suits ≡ false) (λ x. (suits ≡ true) × (x.relation ≡ relation_in bytes.now)) }
     {
         let label = Flags {
             relation: u64::from_be_bytes(bytes_at(bytes, RELATION_AT)),

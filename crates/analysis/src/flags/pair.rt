@@ -2,6 +2,8 @@
 ghost use Rattle.std.specs.Prelude.{◌≡◌, ◌/◌, ◌%◌, ◌<◌};
 ghost use Rattle.analysis.specs.FlagsAlgebra.{same_flag, flipped};
 
+use crate::bits::bit;
+
 // How many values three flags have.
 pub(crate) const VALUES: u8 = 8;
 
@@ -52,7 +54,7 @@ impl Pair {
     pub(crate) fn same_flag(self, flag: Flag) -> bool
         ensures { result ≡ same_flag flag.number self.from self.to }
     {
-        (self.from >> flag.number) % 2 == (self.to >> flag.number) % 2
+        bit(u64::from(self.from), flag.number) == bit(u64::from(self.to), flag.number)
     }
 
     // The pair with the flag flipped on both sides.

@@ -1,4 +1,5 @@
-// Listing steps, one behind the other.
+// Listing steps, one behind the other. Contracts name their masks by one word, `masks_of`: a model of a `Copy` type
+// would have to give the fields back, by an invariant on what lies behind the count and a proof in specs/.
 ghost use Rattle.std.specs.Prelude.{◌≡◌, ◌<◌, ◌≤◌, MatchOption, [], ◌∷◌, ◌++◌, length, slice_index};
 ghost use Rattle.sheet.specs.Standing.{masks_of};
 

@@ -19,7 +19,7 @@ only_number : (c : In_ok-check_records) → first_failing (name_checks c.args.fi
 only_number c = past (record_layer c.args.file.now) _ (sym c.check_records.ensures.refused ∙ ap refusal_in c.in_ok-check_records.was)
 
 found : (c : In_ok-record) → (no_such_record c.args.file.now c.args.number ≡ false) × (c.in_ok-record.record.now ≡ record_of c.args.file.now c.args.number)
-found c = rw c.in_ok-record.ensures.ok_part at c.record_at.ensures
+found c = rw c.in_ok-record.ensures.ok_part at c.find_record.ensures
 
 short : (c : In_ok-record) → name_length (record_of c.args.file.now c.args.number) ≤ 13
 short c =
@@ -40,7 +40,7 @@ returns-in_err-record c =
     let number = c.args.number in
     let p = err_from_is_err_and c.from_residual-in_err-record.result c.from_residual-in_err-record.ensures.1 in
     let cause : c.in_err-record.field-0.0 ≡ NoRecord = let e = rw c.in_err-record.ensures.ok_part at c.in_err-record.ensures.value in cc in
-    let none : no_such_record file number ≡ true = rw c.in_err-record.ensures.ok_part at c.record_at.ensures in
+    let none : no_such_record file number ≡ true = rw c.in_err-record.ensures.ok_part at c.find_record.ensures in
     rw (p.1, p.2, cause) (record {
       refused = sym (only_number (goal.at.returns-in_err-record c).In_ok-check_records ∙ cond-true (no_such_record file number) _ _ none);
       named = tt;

@@ -1,7 +1,7 @@
 use Rattle.std.proofs.Common.{refl}
 use Rattle.numbers.specs.Below.{sum_below}
 use Rattle.analysis.specs.DefinitionsLaws.{same_definitions}
-use Rattle.analysis.proofs.definitions.Definitions.all_kept.Goals as goal
+use Rattle.analysis.proofs.definitions.as_kind.DefinitionsKind.unit.Goals as goal
 
 pub returns : goal.returns
 unfolding sum_below
