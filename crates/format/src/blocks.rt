@@ -98,6 +98,7 @@ pub fn check_blocks(file: &[u8]) -> Result<(), Fault>
 }
 
 // The check sees any one changed byte.
+#[tactic(auto, using(crate::proofs::OneByte::one_changed_byte))]
 pub fn one_changed_byte_holds()
     ensures { OneChangedByteBreaksTheCheck }
 {}
