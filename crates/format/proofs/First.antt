@@ -1,8 +1,7 @@
 -- Laws of the first check that fails.
-use Rattle.std.proofs.Common.{◌≡◌, ℕ, zero, suc, ◌+◌, ◌<◌, Bool, true, false, not, cond, List, [], ◌∷◌, ◌++◌, Some, None, Option, sym, refl, ap, ◌∙◌, ⊎_elim, add-one, arith}
+use Rattle.std.proofs.Common.{◌≡◌, ℕ, zero, suc, ◌+◌, ◌<◌, true, false, List, [], ◌∷◌, ◌++◌, Some, None, Option, sym, refl, ◌∙◌, add-one, arith}
 use Rattle.std.proofs.lemmas.Bool.{cases_order, cond-true, cond-false}
-use Rattle.format.specs.declared.faults.Fault.{Fault}
-use Rattle.format.specs.Refusals.{Refusal, Check, first_failing, check_of}
+use Rattle.format.specs.Refusals.{Refusal, Check, first_failing}
 use Rattle.numbers.specs.Below.{each_below}
 
 -- the first answer, else the second
@@ -12,15 +11,13 @@ or_else (Some x) r = Some x
 
 pub first_append : (xs ys : List Check) → first_failing (xs ++ ys) ≡ or_else (first_failing xs) (first_failing ys)
 first_append [] ys = refl
-first_append (c ∷ xs) ys =
-    elim c.fails as (λ b. cond b (Some c.answers) (first_failing (xs ++ ys)) ≡ or_else (cond b (Some c.answers) (first_failing xs)) (first_failing ys))
-    [ true ↦ refl | false ↦ first_append xs ys ]
+first_append (c ∷ xs) ys = let rest = first_append xs ys in grind arith
 
 pub past : (xs ys : List Check) → first_failing xs ≡ None → first_failing (xs ++ ys) ≡ first_failing ys
-past xs ys none = first_append xs ys ∙ ap (λ r. or_else r (first_failing ys)) none
+past xs ys none = rw (first_append, none)
 
 pub stops : (xs ys : List Check) (r : Refusal) → first_failing xs ≡ Some r → first_failing (xs ++ ys) ≡ Some r
-stops xs ys r some = first_append xs ys ∙ ap (λ x. or_else x (first_failing ys)) some
+stops xs ys r some = rw (first_append, some)
 
 pub each_none : (checks : ℕ → List Check) → first_failing (each_below 0 checks) ≡ None
 unfolding each_below
@@ -40,41 +37,27 @@ pub each_stops : (n : ℕ) (checks : ℕ → List Check) (i : ℕ) (r : Refusal)
 unfolding each_below
 each_stops zero checks i r lt none some = absurd (omega arith)
 each_stops (suc n) checks i r lt none some =
-    ⊎_elim
-    (λ same. past (each_below n checks) (checks n) (ap (λ k. first_failing (each_below k checks)) (sym same) ∙ none) ∙ ap (λ k. first_failing (checks k)) (sym same) ∙ some)
-    (⊎_elim (λ below. stops (each_below n checks) (checks n) r (each_stops n checks i r below none some)) (λ above. absurd (omega arith)))
-    (cases_order i n)
-
-some≢none : {r : Refusal} → Some r ≡ None → ⊥
-some≢none e = let z : ◌≡◌ {A = ℕ} 0 1 = cc in omega arith
-
--- a check that answers by whether the test holds is the check of the test that it holds against
-pub same_check : (fault : Fault) (holds wrong : Bool) → holds ≡ not wrong → first_failing (check_of fault (not holds) ∷ []) ≡ first_failing (check_of fault wrong ∷ [])
-same_check fault holds true e = ap (λ b. first_failing (check_of fault (not b) ∷ [])) e
-same_check fault holds false e = ap (λ b. first_failing (check_of fault (not b) ∷ [])) e
+    let below = each_stops n checks i r in
+    grind (arith, cases_order i n, past (each_below n checks) (checks n), stops (each_below n checks) (checks n) r)
 
 -- where none fails, each one passes
 pub none_first : (c : Check) (cs : List Check) → first_failing (c ∷ cs) ≡ None → (c.fails ≡ false) × (first_failing cs ≡ None)
-none_first c cs none =
-    (elim c.fails as (λ b. cond b (Some c.answers) (first_failing cs) ≡ None → (b ≡ false) × (first_failing cs ≡ None))
-    [ true ↦ λ e. absurd (some≢none e) | false ↦ λ e. (refl, e) ]) none
+none_first c cs none = (grind arith, grind arith)
 
 pub none_parts : (xs ys : List Check) → first_failing (xs ++ ys) ≡ None → (first_failing xs ≡ None) × (first_failing ys ≡ None)
 none_parts xs ys none = go (first_failing xs) (first_failing ys) (sym (first_append xs ys) ∙ none)
   where
     go : (a b : Option Refusal) → or_else a b ≡ None → (a ≡ None) × (b ≡ None)
     go None b e = (refl, e)
-    go (Some x) b e = absurd (some≢none e)
+    go (Some x) b e = cc
 
 pub each_at : (n : ℕ) (checks : ℕ → List Check) (i : ℕ) → i < n → first_failing (each_below n checks) ≡ None → first_failing (checks i) ≡ None
 unfolding each_below
 each_at zero checks i lt none = absurd (omega arith)
 each_at (suc n) checks i lt none =
     let parts = none_parts (each_below n checks) (checks n) none in
-    ⊎_elim
-    (λ same. ap (λ k. first_failing (checks k)) same ∙ parts.1)
-    (⊎_elim (λ below. each_at n checks i below parts.0) (λ above. absurd (omega arith)))
-    (cases_order i n)
+    let below = each_at n checks i in
+    grind (arith, cases_order i n)
 
 -- where one check is made at each place
 module _ (check : ℕ → Check) where

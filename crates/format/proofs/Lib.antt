@@ -1,11 +1,8 @@
 pub mod First
-pub mod Answered
 pub mod Chunks
 pub mod RecordsIn
-pub mod Zeros
 pub mod Blanks
 pub mod Cuts
-pub mod Tests
 pub mod RecordLayer
 pub mod Weighted
 pub mod OneByte

@@ -1,15 +1,16 @@
 -- One changed byte in a file is refused by its block's check.
-use Rattle.std.proofs.Common.{◌≡◌, ℕ, ◌+◌, ◌-◌, ◌*◌, ◌/◌, ◌%◌, ◌<◌, ◌≤◌, true, false, not, ◌||◌, eqb, ltb, List, [], ◌∷◌, ◌++◌, length, take, drop, set, Some, None, ap, ◌∙◌, arith, length-set}
+use Rattle.std.proofs.Common.{◌≡◌, ℕ, ◌-◌, ◌*◌, ◌/◌, ◌%◌, ◌<◌, true, false, [], ◌∷◌, length, drop, set, Some, None, ap, ◌∙◌, arith, length-set}
 use lib.Seq.{drop-set-add, take-set-le, take-set-lt}
-use Rattle.std.proofs.lemmas.Bool.{cond-true, cond-false, eqb-true, not-false, or_parts}
+use Rattle.std.proofs.lemmas.Bool.{cond-true, cond-false}
+use Rattle.std.proofs.lemmas.Bool.Decides.{nat_tests}
 use Rattle.format.specs.Layout.{Bytes, byte, block_count, block_of, record_count}
-use Rattle.format.specs.Refusals.{Check, first_failing, block_check, call_check}
+use Rattle.format.specs.Refusals.{first_failing, block_check, call_check}
 use Rattle.numbers.specs.Below.{each_below}
 use Rattle.format.specs.Checks.{wrong_length, wrong_check, wrong_header, first_blank, blanks_wrong, block_checks_at, block_layer, record_layer, record_checks_at}
 use Rattle.format.specs.Names.{no_such_record}
 use Rattle.format.specs.Changed.{OneChangedByteIsRefused}
 use Rattle.format.proofs.Cuts.{length_part, byte_part}
-use Rattle.format.proofs.First.{stops, none_first, none_parts, each_at, each_all, each_stops}
+use Rattle.format.proofs.First.{stops, none_parts, each_at, each_all, each_stops}
 use Rattle.format.proofs.OneByte.{one_changed_byte}
 
 module _ (file : Bytes) (i value : ℕ) where
@@ -21,35 +22,25 @@ module _ (file : Bytes) (i value : ℕ) where
 
   block_before : (b : ℕ) → b < i / 512 → block_of changed b ≡ block_of file b
   block_before b lt =
-      let at : i ≡ 512 * b + (i - 512 * b) = omega arith in
-      ap (λ k. take 512 (drop (512 * b) (set file k value))) at
-      ∙ ap (take 512) (drop-set-add (512 * b) file (i - 512 * b) value)
-      ∙ take-set-le 512 (drop (512 * b) file) (i - 512 * b) value (omega arith)
+      grind (arith, drop-set-add (512 * b) file (i - 512 * b) value, take-set-le 512 (drop (512 * b) file) (i - 512 * b) value)
 
   block_there : block_of changed (i / 512) ≡ set (block_of file (i / 512)) (i % 512) value
   block_there =
-      let at : i ≡ 512 * (i / 512) + i % 512 = omega arith in
-      ap (λ k. take 512 (drop (512 * (i / 512)) (set file k value))) at
-      ∙ ap (take 512) (drop-set-add (512 * (i / 512)) file (i % 512) value)
-      ∙ take-set-lt 512 (drop (512 * (i / 512)) file) (i % 512) value (omega arith)
+      grind (arith, drop-set-add (512 * (i / 512)) file (i % 512) value, take-set-lt 512 (drop (512 * (i / 512)) file) (i % 512) value)
 
   checks_before : (b : ℕ) → b < i / 512 → block_checks_at changed b ≡ block_checks_at file b
   checks_before b lt = λ j. block_check 2 b (wrong_check (block_before b lt j)) ∷ block_check 3 b (wrong_header b (same_count j) (block_before b lt j)) ∷ []
 
   module _ (right : first_failing (block_layer file) ≡ None) (inside : i < length file) (moved : value ≡ byte file i → ⊥) where
-    abbrev behind_length : List Check
-    behind_length = each_below (block_count file) (block_checks_at file) ++ block_check 4 (first_blank file) (blanks_wrong file) ∷ []
-
-    passed : (wrong_length (length file) ≡ false) × (first_failing behind_length ≡ None)
-    passed = none_first (block_check 1 0 (wrong_length (length file))) behind_length right
+    passed : (wrong_length (length file) ≡ false) × (first_failing (each_below (block_count file) (block_checks_at file)) ≡ None)
+    passed = let parts = none_parts (each_below (block_count file) (block_checks_at file)) (block_check 4 (first_blank file) (blanks_wrong file) ∷ []) in (grind arith, grind arith)
 
     blocks_right : (b : ℕ) → b < block_count file → first_failing (block_checks_at file b) ≡ None
-    blocks_right b lt =
-        each_at (block_count file) (block_checks_at file) b lt (none_parts (each_below (block_count file) (block_checks_at file)) (block_check 4 (first_blank file) (blanks_wrong file) ∷ []) passed.1).0
+    blocks_right b lt = each_at (block_count file) (block_checks_at file) b lt passed.1
 
     -- the length is a multiple of 512, so the changed byte lies in a whole block
     whole : length file % 512 ≡ 0
-    whole = eqb-true _ 0 (not-false _ (or_parts (not (eqb (length file % 512) 0)) (ltb (length file) 512 || ltb 9216 (length file)) passed.0).0)
+    whole = grind (arith, nat_tests, passed.0)
 
     in_block : i / 512 < block_count file
     in_block = omega (arith, whole)
@@ -57,13 +48,9 @@ module _ (file : Bytes) (i value : ℕ) where
     broken : wrong_check (block_of changed (i / 512)) ≡ true
     broken =
         let b = i / 512 in
-        let fits : 512 * b + 512 ≤ length file = omega (arith, in_block) in
-        let at : 512 * b + i % 512 ≡ i = omega arith in
+        let byte_there = byte_part file (512 * b) 512 (i % 512) in
         ap wrong_check block_there
-        ∙ one_changed_byte (block_of file b) (i % 512) value (length_part file (512 * b) 512 fits)
-        (none_first (block_check 2 b (wrong_check (block_of file b))) (block_check 3 b (wrong_header b (block_count file) (block_of file b)) ∷ []) (blocks_right b in_block)).0
-        (omega arith)
-        (λ e. moved (e ∙ byte_part file (512 * b) 512 (i % 512) (omega arith) ∙ ap (byte file) at))
+        ∙ one_changed_byte (block_of file b) (i % 512) value (length_part file (512 * b) 512 (omega (arith, in_block))) (grind (arith, blocks_right b in_block)) (omega arith) (λ e. grind arith)
 
     there_fails : first_failing (block_checks_at changed (i / 512)) ≡ Some (record { number = 2; layer = 1; place = i / 512 })
     there_fails = cond-true (wrong_check (block_of changed (i / 512))) _ _ broken

@@ -1,7 +1,6 @@
 -- The records of a file, as blocks and their parts hold them.
-use Rattle.std.proofs.Common.{◌≡◌, ℕ, suc, ◌+◌, ◌-◌, ◌*◌, ◌/◌, ◌%◌, ◌<◌, ◌≤◌, [], ◌∷◌, map, length, get_or, ap, ◌∙◌, arith}
+use Rattle.std.proofs.Common.{◌≡◌, ℕ, suc, ◌+◌, ◌-◌, ◌*◌, ◌/◌, ◌%◌, ◌<◌, [], ◌∷◌, length, get_or, ◌∙◌, arith}
 use Rattle.std.specs.Simd.{first_chunks}
-use Rattle.std.specs.List.{range_with_len}
 use Rattle.std.proofs.lemmas.List.FromFn.{length-map-range_with_len, get_or-map-range_with_len}
 use Rattle.format.specs.Layout.{Bytes, part, block_count, block_of, record_count, record_of, records_from}
 use Rattle.format.proofs.Chunks.{chunk_at}
@@ -14,26 +13,16 @@ block_in file b lt = chunk_at 512 (length file / 512) b file [] lt
 -- a record is a chunk of what its block has between header and check
 pub record_in : (file : Bytes) (r : ℕ) → r / 9 < block_count file → (block : Bytes) → block ≡ block_of file (r / 9) → get_or (first_chunks 56 (length (part block 4 504) / 56) (part block 4 504)) (r % 9) [] ≡ record_of file r
 record_in file r lt block same =
-    let long : length block ≡ 512 = ap length same ∙ length_part file (512 * (r / 9)) 512 (omega arith) in
-    let body : length (part block 4 504) ≡ 504 = length_part block 4 504 (omega arith) in
-    let nine : length (part block 4 504) / 56 ≡ 9 = ap (λ n. n / 56) body in
-    ap (λ n. get_or (first_chunks 56 n (part block 4 504)) (r % 9) []) nine
-    ∙ chunk_at 56 9 (r % 9) (part block 4 504) [] (omega arith)
-    ∙ part_part block 4 504 (56 * (r % 9)) 56 (omega arith)
-    ∙ ap (λ bs. part bs (4 + 56 * (r % 9)) 56) same
-    ∙ part_part file (512 * (r / 9)) 512 (4 + 56 * (r % 9)) 56 (omega arith)
+    let long = length_part file (512 * (r / 9)) 512 in
+    let body = length_part block 4 504 in
+    let cut = part_part block 4 504 (56 * (r % 9)) 56 in
+    let whole = part_part file (512 * (r / 9)) 512 (4 + 56 * (r % 9)) 56 in
+    chunk_at 56 (length (part block 4 504) / 56) (r % 9) (part block 4 504) [] (grind arith) ∙ grind arith
 
 -- the records from a place on are the one at that place and those behind it
 pub records_more : (file : Bytes) (r : ℕ) → r < record_count file → records_from file r ≡ record_of file r ∷ records_from file (r + 1)
 records_more file r lt =
-    let left : record_count file - r ≡ suc (record_count file - (r + 1)) = omega arith in
-    ap (λ n. map (record_of file) (range_with_len r n)) left
-
--- and none where there is no such place
-pub records_end : (file : Bytes) (r : ℕ) → record_count file ≤ r → records_from file r ≡ []
-records_end file r le =
-    let left : record_count file - r ≡ 0 = omega arith in
-    ap (λ n. map (record_of file) (range_with_len r n)) left
+    let left : record_count file - r ≡ suc (record_count file - (r + 1)) = omega arith in rw left
 
 pub records_len : (file : Bytes) (r : ℕ) → length (records_from file r) ≡ record_count file - r
 records_len file r = length-map-range_with_len (record_of file) r (record_count file - r)

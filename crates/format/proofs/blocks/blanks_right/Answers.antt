@@ -1,10 +1,10 @@
-use Rattle.std.proofs.Common.{◌≡◌, ℕ, ◌<◌, ◌+◌, ◌-◌, Bool, true, false, not, ◌&&◌, ltb, List, [], inl, length, get_or, sym, refl, ap, ◌∙◌, ⊎_elim, arith, rules}
+use Rattle.std.proofs.Common.{◌≡◌, ℕ, ◌<◌, ◌+◌, ◌-◌, Bool, true, false, not, ◌&&◌, ltb, List, [], inl, length, get_or, sym, ap, ◌∙◌, arith, rules}
 use Rattle.std.specs.Bool.{MatchBool}
 use Rattle.std.specs.List.{AllWithin, HoldsAt, enumerate_from}
-use Rattle.std.proofs.lemmas.Bool.{cases_lt, ltb-false, ltb-true, and_cases, and_parts, not-true, not-false}
 use Rattle.std.proofs.lemmas.Iterator.{cases_from_all}
 use Rattle.std.proofs.lemmas.Iterator.Consumers.{YieldsList-at, YieldsList-from_first, YieldsList-from_enumerate}
 use Rattle.std.proofs.lemmas.List.FromFn.{length-enumerate_from, get_or-enumerate_from}
+use Rattle.std.proofs.lemmas.Bool.Decides.{nat_tests}
 use borrow.Author.Tests.{tests}
 use Rattle.format.specs.Layout.{Bytes, record_of, record_count, records_from}
 use Rattle.format.specs.Checks.{some_nonzero, first_blank, blanks_wrong}
@@ -30,26 +30,16 @@ module _ (file : Bytes) where
 
   there : (k : ℕ) → k < record_count file - first → right (get_or numbered k (0, [])) ≡ (ltb k 8 && not (some_nonzero (record_of file (first + k))))
   there k lt =
-      let same : 0 + k ≡ k = omega arith in
-      ap right (get_or-enumerate_from 0 (records_from file first) k (0, []) (omega (arith, records_len file first)))
-      ∙ (λ i. ltb (same i) 8 && not (some_nonzero (records_at file first k (first + k) [] lt refl i)))
+      grind (arith, get_or-enumerate_from 0 (records_from file first) k (0, []), records_len file first, records_at file first k (first + k) [])
 
   tells : (r : Bool) → MatchBool r (AllWithin (λ p. right p ≡ true) numbered 0 (length numbered)) ((k : ℕ) × (k < length numbered) × HoldsAt (λ p. right p ≡ false) numbered k) → r ≡ not (blanks_wrong file)
   tells true all =
-      let passes : (k : ℕ) → k < record_count file - first → (ltb k 8 ≡ true) × (not (some_nonzero (record_of file (first + k))) ≡ true) =
-      λ k lt. and_parts (ltb k 8) _ (sym (there k lt) ∙ all k (0, []) (omega arith) (omega (arith, count))) in
-      sym (ap not (blanks_good file
-      (λ k le lt.
-      let back : first + (k - first) ≡ k = omega arith in
-      ap (λ r. some_nonzero (record_of file r)) (sym back) ∙ not-true _ (passes (k - first) (omega arith)).1)
-      (⊎_elim (λ few. omega arith) (λ more. absurd (omega (arith, ltb-true 8 8 (passes 8 (omega arith)).0))) (cases_lt (record_count file) (first + 9)))))
+      let passes : (k : ℕ) → k < record_count file - first → (ltb k 8 && not (some_nonzero (record_of file (first + k)))) ≡ true = λ k lt. grind (arith, there k lt, all k (0, []), count) in
+      sym (ap not (blanks_good file (λ k le lt. grind (arith, passes (k - first))) (grind (arith, nat_tests, passes 8))))
   tells false some =
       let k = some.0 in
-      let inside : k < record_count file - first = omega (arith, some.1, count) in
-      sym (ap not (⊎_elim
-      (λ many. blanks_many file (omega (arith, ltb-false k 8 many)))
-      (λ nonzero. blanks_bad file (first + k) (omega arith) (omega arith) (not-false _ nonzero))
-      (and_cases (ltb k 8) _ (sym (there k inside) ∙ some.2 (0, [])))))
+      let many = blanks_many file in
+      grind (arith, nat_tests, count, there k, some.2 (0, []), blanks_bad file (first + k))
 
 pub all-requires-clause-can : goal.all-requires-clause-can
 all-requires-clause-can c = (tt, tt, inl (omega (arith, c.enumerate.ensures.count, records_len c.enumerate.result.iter.file.now c.enumerate.result.iter.place)))

@@ -1,4 +1,4 @@
-use Rattle.std.proofs.Common.{◌≡◌, ℕ, ◌<◌, true, false, Some, None, Option, [], inl, length, sym, ap, ◌∙◌, arith, rules}
+use Rattle.std.proofs.Common.{◌≡◌, ℕ, ◌<◌, true, false, Some, None, Option, [], inl, length, sym, arith, rules}
 use Rattle.std.specs.Option.{MatchOption}
 use Rattle.std.specs.List.{AllWithin, HoldsAt}
 use Rattle.std.proofs.lemmas.Iterator.{IsFirst-from_position}
@@ -16,11 +16,10 @@ first : (file : Bytes) (found : Option ℕ)
     (λ i. (i < length (records_from file 0)) × HoldsAt (λ rec. is_blank rec ≡ true) (records_from file 0) i × AllWithin (λ rec. is_blank rec ≡ false) (records_from file 0) 0 i)
     → MatchOption found (first_blank file ≡ record_count file) (λ i. i ≡ first_blank file)
 first file None none =
-    first_none (record_count file) (λ r. is_blank (record_of file r)) (λ k lt. ap is_blank (sym (records_at file 0 k k [] (omega arith) (omega arith))) ∙ none k [] (omega arith) (omega (arith, records_len file 0)))
+    first_none (record_count file) (λ r. is_blank (record_of file r)) (λ k lt. grind (arith, records_at file 0 k k [], none k [], records_len file 0))
 first file (Some i) found =
-    let inside : i < record_count file = omega (arith, found.0, records_len file 0) in
-    sym (first_is (record_count file) (λ r. is_blank (record_of file r)) i inside (ap is_blank (sym (records_at file 0 i i [] (omega arith) (omega arith))) ∙ found.1 [])
-    (λ k lt. ap is_blank (sym (records_at file 0 k k [] (omega arith) (omega arith))) ∙ found.2 k [] (omega arith) lt))
+    let len = records_len file 0 in
+    sym (first_is (record_count file) (λ r. is_blank (record_of file r)) i (omega arith) (grind (arith, records_at file 0 i i [], found.1 [])) (λ k lt. grind (arith, records_at file 0 k k [], found.2 k [])))
 
 pub position-requires-clause-fits : goal.position-requires-clause-fits
 position-requires-clause-fits c = inl (omega (arith, records_len c.at.result.file.now c.at.result.place))

@@ -1,6 +1,6 @@
 use Rattle.std.proofs.Common.{not, eqb, length, get_or, rules}
 use Rattle.std.proofs.iter.runs.Made.{chains}
-use Rattle.format.proofs.Answered.{all_tells}
+use Rattle.numbers.proofs.RangeLaws.{all_tells}
 use Rattle.format.proofs.bytes.all_zero.Goals as goal
 
 pub returns : goal.returns

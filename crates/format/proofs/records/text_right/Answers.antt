@@ -2,7 +2,7 @@ use Rattle.std.proofs.Common.{rules}
 use Rattle.std.proofs.iter.runs.Made.{chains}
 use Rattle.format.specs.Layout.{byte}
 use Rattle.format.specs.Checks.{wrong_name_byte}
-use Rattle.format.proofs.Answered.{all_tells}
+use Rattle.numbers.proofs.RangeLaws.{all_tells}
 use Rattle.format.proofs.records.text_right.Goals as goal
 
 pub returns : goal.returns
