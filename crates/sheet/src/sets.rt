@@ -15,6 +15,7 @@ pub(crate) fn lies_within(inner: Parties, outer: Parties) -> bool
 }
 
 // Whether the parties are those below some number.
+#[tactic(auto, using(crate::proofs::Masks::power_first))]
 pub(crate) fn are_first(parties: Parties) -> bool
     ensures { result ≡ first_parties parties.mask }
 {

@@ -32,6 +32,7 @@ impl<'a, K: Drop> Shelf<'a, K> {
     }
 
     // Writes the label of a row; a row beyond the last place changes nothing.
+    #[tactic(auto, using(std::proofs::lemmas::List::set_past))]
     pub fn set(&mut self, row: usize, label: K)
         ensures labels { self.new.places.now ≡ slice_set self.old.places.now row label }
         ensures lender { self.new.places.ghost_name ≡ self.old.places.ghost_name }

@@ -30,6 +30,7 @@ impl Steps {
     }
 
     // How many steps there are.
+    #[tactic(auto, using(crate::proofs::Listed::length_masks))]
     pub(crate) fn count(&self) -> usize
         ensures { result ≡ length (masks_of self.now) }
     {
