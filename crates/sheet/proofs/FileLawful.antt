@@ -1,6 +1,6 @@
 -- A file that passes the checks of its diagram means a lawful diagram.
-use Rattle.std.proofs.Common.{◌≡◌, ℕ, ◌+◌, ◌-◌, ◌<◌, ◌≤◌, ltb, ◌++◌, get_or, None, sym, ◌∙◌, arith}
-use Rattle.std.proofs.lemmas.Bool.{ltb-false}
+use Rattle.std.proofs.Common.{◌≡◌, ℕ, ◌+◌, ◌-◌, ◌<◌, ◌≤◌, ltb, ◌++◌, get_or, None, arith}
+use Rattle.std.proofs.lemmas.Bool.Decides.{nat_tests}
 use Rattle.format.specs.Checks.{contents_of}
 use Rattle.format.specs.Layout.{Bytes, byte}
 use Rattle.format.specs.Refusals.{Check, first_failing}
@@ -21,17 +21,12 @@ file_is_lawful file bytes order none =
     let later = none_parts (goal_checks c s) (outcome_checks c s) shape.1 in
     let parties_check : ℕ → Check = λ n. diagram_check 10 n (wrong_parties s n) in
     let parties = none_first (diagram_check 10 0 (ltb (steps_in file) 2)) (one_each parties_check (steps_in file)) shape.0 in
-    let two = ltb-false (steps_in file) 2 parties.0 in
     let long = file_steps file in
     let few : outcomes_in file ≤ 256 = let most = order.few_outcomes in omega arith in
     standing_lawful s (file_mask_small file bytes)
-    (omega arith)
-    (λ n lt zero. let within : n < steps_in file = omega arith in (order.step_there n within).1 (sym (file_mask file n within) ∙ zero))
+    (grind (arith, nat_tests, parties.0))
+    (λ n lt zero. grind (arith, order.step_there n, file_mask file n))
     (λ n lt. one_passes parties_check (steps_in file) parties.1 n (omega arith))
-    (λ r used.
-    let lt = file_used file r used in
-    let same = file_step file few r lt in
-    let before = (order.outcome_there r lt).1 in
-    omega arith)
+    (λ r used. grind (arith, file_used file r used, file_step file few r, order.outcome_there r))
     (λ r used. one_passes (λ k. diagram_check 11 (steps_in file + k) (wrong_goals s.masks (get_or s.rows k None))) (outcomes_in file) later.0 r (file_used file r used))
     (λ n lt. one_passes (λ k. diagram_check 12 k (no_outcome s k)) (steps_in file - 1) later.1 n (omega arith))

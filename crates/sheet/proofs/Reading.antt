@@ -1,5 +1,5 @@
 -- The records that a reader gives first.
-use Rattle.std.proofs.Common.{◌≡◌, ℕ, ◌+◌, ◌<◌, ◌≤◌, List, map, length, get_or, refl, subst, ap, ◌∙◌, arith}
+use Rattle.std.proofs.Common.{◌≡◌, ℕ, ◌+◌, ◌<◌, ◌≤◌, List, map, length, get_or, subst, ◌∙◌, arith}
 use Rattle.std.specs.List.{range_with_len, zip}
 use Rattle.std.specs.Iterator.{YieldsFirstRef}
 use Rattle.std.specs.Iterator.Adapters.{take_source, take_count, take_steps}
@@ -39,5 +39,4 @@ module _ (file : Bytes) (r n : ℕ) (fits : r + n ≤ record_count file) where
       let numbers = length-range_with_len 0 n in
       let recs = records_len file r in
       let both = is ∙ get_or-zip (range_with_len 0 n) (records_from file r) k p (omega arith) (omega arith) in
-      let first : p.0 ≡ 0 + k = ap (λ q. q.0) both ∙ get_or-range_with_len 0 n k p.0 inside in
-      (inside, omega arith, ap (λ q. q.1) both ∙ records_at file r k (r + k) p.1 (omega arith) refl)
+      (inside, grind (arith, get_or-range_with_len 0 n k p.0), grind (arith, records_at file r k (r + k) p.1))

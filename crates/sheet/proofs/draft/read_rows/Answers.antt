@@ -1,8 +1,9 @@
-use Rattle.std.proofs.Common.{◌≡◌, ℕ, ◌+◌, ◌<◌, cond, ltb, List, Option, ◌++◌, [], ◌∷◌, length, get_or, set, Some, None, refl, sym, ap, ◌∙◌, ⊎_elim, arith, get_or-set_same, get_or-set_other, length-append}
+use Rattle.std.proofs.Common.{◌≡◌, ℕ, ◌+◌, ◌<◌, cond, ltb, List, Option, ◌++◌, [], ◌∷◌, length, get_or, set, Some, None, refl, ap, ◌∙◌, arith, get_or-set_same, get_or-set_other, length-append}
 use Rattle.std.specs.Iterator.{YieldsFirstRef}
 use Rattle.std.specs.Iterator.Adapters.{zip_first, zip_second}
 use Rattle.std.proofs.iter.Yields.{nat_range_steps}
-use Rattle.std.proofs.lemmas.Bool.{cases_eq, cases_lt, le-ltb, lt-ltb, cond-true, cond-false}
+use Rattle.std.proofs.lemmas.Bool.{cases_eq}
+use Rattle.std.proofs.lemmas.Bool.Decides.{nat_tests}
 use Rattle.std.proofs.lemmas.Iterator.{YieldsList, YieldsList-from_range, YieldsList-from_zip, zips}
 use Rattle.std.proofs.lemmas.Iterator.Consumers.{YieldsList-at, YieldsList-from_first, YieldsList-turn, YieldsList-end}
 use Rattle.std.proofs.lemmas.List.{get_or-replicate}
@@ -18,16 +19,7 @@ use Rattle.sheet.proofs.draft.read_rows.Goals.{After-into_iter-r-iterator, In-So
 
 -- one row more is written
 one_more : (rows : List (Option Row)) (m k : ℕ) (row : ℕ → Option Row) → m < length rows → get_or rows k None ≡ cond (ltb k m) (row k) None → get_or (set rows m (row m)) k None ≡ cond (ltb k (m + 1)) (row k) None
-one_more rows m k row inside sofar =
-    ⊎_elim
-    (λ same. ap (λ j. get_or (set rows m (row m)) j None) same ∙ get_or-set_same rows m (row m) None inside ∙ sym (cond-true (ltb k (m + 1)) (row k) None (lt-ltb k (m + 1) (omega arith)) ∙ ap row same))
-    (λ other.
-    get_or-set_other rows m k (row m) None other ∙ sofar
-    ∙ ⊎_elim
-    (λ below. cond-true (ltb k m) (row k) None (lt-ltb k m below) ∙ sym (cond-true (ltb k (m + 1)) (row k) None (lt-ltb k (m + 1) (omega arith))))
-    (λ above. cond-false (ltb k m) (row k) None (le-ltb k m above) ∙ sym (cond-false (ltb k (m + 1)) (row k) None (le-ltb k (m + 1) (omega arith))))
-    (cases_lt k m))
-    (cases_eq k m)
+one_more rows m k row inside sofar = grind (arith, nat_tests, get_or-set_same rows m (row m) None, get_or-set_other rows m k (row m) None, cases_eq k m)
 
 -- the loop goes over the outcomes' records, each with its number
 road : (c : After-into_iter-r-iterator)
@@ -44,9 +36,7 @@ pub loop-r-init : goal.loop-r-init
 loop-r-init c = (
   (tt, tt),
   tt,
-  λ k lt.
-      ap (λ rows. get_or rows k None) c.free-table.ensures ∙ get_or-replicate 256 k None None lt
-      ∙ sym (cond-false (ltb k 0) (Some (row_in (outcome_at c.args.recorded.now.file.now k))) None (le-ltb k 0 (omega arith))),
+  λ k lt. grind (arith, nat_tests, get_or-replicate {A = Option Row} 256 k None None lt),
 )
 
 -- each turn has its number and the outcome's record
@@ -76,9 +66,8 @@ loop-r-preserved c =
       (tt, tt),
       tt,
       λ k lt.
-          ap (λ t. get_or t k None) (c.put.ensures ∙ (λ i. set rows (here.0 i) (Some (row i))))
-          ∙ one_more rows m k (λ j. Some (row_in (outcome_at file j))) (omega (arith, c.loop-r.table.long, here.1, (bounds _ _ c.args.recorded.now.recorded).few_outcomes)) (c.loop-r.invariant.2 k lt)
-          ∙ ap (λ n. cond (ltb k n) (Some (row_in (outcome_at file k))) None) (sym long),
+          let more = one_more rows m k (λ j. Some (row_in (outcome_at file j))) (omega (arith, c.loop-r.table.long, here.1, (bounds _ _ c.args.recorded.now.recorded).few_outcomes)) (c.loop-r.invariant.2 k lt) in
+          grind (arith, here.0, row),
     )
 
 pub returns : goal.returns
