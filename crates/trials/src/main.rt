@@ -2,6 +2,8 @@
 // It writes and seals the changed files by code of its own.
 #![tactic(auto)]
 
+ghost use Rattle.std.specs.Prelude.{◌≡◌, length, vec_len};
+
 use format::faults::{BlockCause, Fault, RecordCause};
 use format::names::name;
 use format::records::check_records;
@@ -96,6 +98,7 @@ struct Trial<'a> {
     file: &'a [u8],
     copy: Vec<u8>,
     records: usize,
+    ghost alike: { vec_len copy ≡ length file.now },
 }
 
 impl<'a> Trial<'a> {
@@ -112,10 +115,7 @@ impl<'a> Trial<'a> {
     fn refused_with<F: FnOnce(&mut [u8])>(&mut self, change: F) -> Option<Fault>
         requires { F.IsAlwaysCallable change }
     {
-        // Byte by byte, since `copy_from_slice` takes only what is known to be as long.
-        for (byte, original) in self.copy.iter_mut().zip(self.file) {
-            *byte = *original;
-        }
+        self.copy.as_mut_slice().copy_from_slice(self.file);
         change(self.copy.as_mut_slice());
         refusal(self.copy.as_slice())
     }
