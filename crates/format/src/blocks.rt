@@ -1,5 +1,5 @@
 // Layer 1: the file's length, each block's check and header, the blanks.
-ghost use Rattle.std.specs.Prelude.{◌≡◌, not, ◌&&◌, nat_lt, MatchOption};
+ghost use Rattle.std.specs.Prelude.{◌≡◌, ◌<◌, not, ◌&&◌, nat_lt, MatchOption};
 ghost use Rattle.format.specs.Layout.{check_sum, record_count};
 ghost use Rattle.format.specs.Refusals.{refusal_in, first_failing};
 ghost use Rattle.format.specs.Checks.{wrong_length, wrong_check, wrong_header, some_nonzero, first_blank, blanks_wrong, block_checks, block_layer};
@@ -60,7 +60,7 @@ fn check_block(block: &[u8; BLOCK], position: usize, count: usize) -> Result<(),
 fn first_blank(file: &[u8]) -> Option<usize>
     ensures { MatchOption result
         (first_blank file.now ≡ record_count file.now)
-        (λ first. first ≡ first_blank file.now) }
+        (λ first. (first < record_count file.now) × (first ≡ first_blank file.now)) }
 {
     Reader::at(file, 0).position(|rec| is_blank(rec))
 }

@@ -14,12 +14,12 @@ use Rattle.format.proofs.blocks.first_blank.Goals as goal
 first : (file : Bytes) (found : Option ℕ)
     → MatchOption found (AllWithin (λ rec. is_blank rec ≡ false) (records_from file 0) 0 (length (records_from file 0)))
     (λ i. (i < length (records_from file 0)) × HoldsAt (λ rec. is_blank rec ≡ true) (records_from file 0) i × AllWithin (λ rec. is_blank rec ≡ false) (records_from file 0) 0 i)
-    → MatchOption found (first_blank file ≡ record_count file) (λ i. i ≡ first_blank file)
+    → MatchOption found (first_blank file ≡ record_count file) (λ i. (i < record_count file) × (i ≡ first_blank file))
 first file None none =
     first_none (record_count file) (λ r. is_blank (record_of file r)) (λ k lt. grind (arith, records_at file 0 k k [], none k [], records_len file 0))
 first file (Some i) found =
     let len = records_len file 0 in
-    sym (first_is (record_count file) (λ r. is_blank (record_of file r)) i (omega arith) (grind (arith, records_at file 0 i i [], found.1 [])) (λ k lt. grind (arith, records_at file 0 k k [], found.2 k [])))
+    (omega arith, sym (first_is (record_count file) (λ r. is_blank (record_of file r)) i (omega arith) (grind (arith, records_at file 0 i i [], found.1 [])) (λ k lt. grind (arith, records_at file 0 k k [], found.2 k []))))
 
 pub position-requires-clause-fits : goal.position-requires-clause-fits
 position-requires-clause-fits c = inl (omega (arith, records_len c.at.result.file.now c.at.result.place))
