@@ -3,7 +3,7 @@ ghost use Rattle.std.specs.Prelude.{◌≡◌};
 ghost use Rattle.format.specs.Kinds.{Spells};
 ghost use Rattle.format.specs.Layout.{is_blank};
 
-use crate::layout::RECORD;
+use crate::reader::RECORD;
 
 // The kinds of record.
 #[derive(Clone, Copy, Debug, PartialEq, Eq)]

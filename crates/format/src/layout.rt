@@ -9,8 +9,6 @@ pub(crate) const SUMMED: usize = 508;
 
 pub(crate) const MOST_BLOCKS: usize = 18;
 
-pub(crate) const RECORD: usize = 56;
-
 pub(crate) const RECORDS_IN_BLOCK: usize = 9;
 
 pub(crate) const MOST_BLANKS: usize = 8;

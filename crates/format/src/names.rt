@@ -7,8 +7,8 @@ ghost use Rattle.format.specs.Changed.{OneChangedByteIsRefused};
 
 use crate::faults::{CallCause, Fault};
 use crate::kinds::is_blank;
-use crate::layout::{NAME, RECORD};
-use crate::reader::Reader;
+use crate::layout::NAME;
+use crate::reader::{RECORD, Reader};
 use crate::records::check_records;
 
 // The name in a record, as its length gives it.

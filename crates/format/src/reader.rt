@@ -4,7 +4,10 @@ ghost use Rattle.std.specs.Iterator.{YieldsFirstRef, MakesProgress, item_count};
 ghost use Rattle.format.specs.Layout.{record_count, record_of};
 ghost use Rattle.format.specs.Reading.{records_left};
 
-use crate::layout::{BLOCK, HEADER, RECORD, RECORDS_IN_BLOCK, SUMMED};
+use crate::layout::{BLOCK, HEADER, RECORDS_IN_BLOCK, SUMMED};
+
+// How many bytes a record has.
+pub const RECORD: usize = 56;
 
 // The file and the place of the record that comes next.
 #[derive(Drop)]

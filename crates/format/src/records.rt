@@ -10,9 +10,9 @@ use crate::checks::{Cause, ensure};
 use crate::faults::{Fault, RecordCause};
 use crate::kinds::{RecordKind, UnknownKind};
 use crate::layout::{
-    FIELDS, FIRST_PRINTABLE, GREATEST_STEP, LAST_PRINTABLE, LONGEST_NAME, MOST_OUTCOMES, RECORD,
+    FIELDS, FIRST_PRINTABLE, GREATEST_STEP, LAST_PRINTABLE, LONGEST_NAME, MOST_OUTCOMES,
 };
-use crate::reader::Reader;
+use crate::reader::{RECORD, Reader};
 
 // How many steps and outcomes a file records.
 #[derive(Clone, Copy, Debug, Default, PartialEq, Eq)]
