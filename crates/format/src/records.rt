@@ -1,5 +1,5 @@
 // Layer 2: kinds, names, steps and outcomes, record by record.
-ghost use Rattle.std.specs.Prelude.{◌≡◌, ◌^◌, ◌<◌, ◌≤◌, not, [], ◌∷◌, length, IfOk, Err};
+ghost use Rattle.std.specs.Prelude.{◌≡◌, ◌^◌, ◌<◌, ◌≤◌, not, length, IfOk};
 ghost use Rattle.format.specs.Refusals.{refusal_in, first_failing};
 ghost use Rattle.format.specs.Checks.{wrong_name_byte, wrong_text, wrong_step, wrong_outcome, name_field_checks};
 ghost use Rattle.format.specs.Checks.{record_checks, ahead_behind, contents_of, record_layer};

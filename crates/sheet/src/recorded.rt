@@ -1,5 +1,4 @@
 // A file that passes the record layer.
-ghost use Rattle.std.specs.Prelude.{◌≡◌};
 ghost use Rattle.sheet.specs.Recorded.{Recorded};
 
 use format::records::Contents;
