@@ -68,4 +68,19 @@ mod tests {
         }
         Ok(())
     }
+
+    #[test]
+    fn a_wrong_command_line_is_told_in_one_line(rt: HostRuntime) -> Result<(), Fail> {
+        let command = Failure::NoCommand.to_string(rt.alloc())?;
+        assert_eq!(rt;
+            command.as_str(),
+            "vornpiek: not a command: see vornpiek --help"
+        );
+        let number = Failure::NoNumber.to_string(rt.alloc())?;
+        assert_eq!(rt;
+            number.as_str(),
+            "vornpiek: not a record's number: see vornpiek --help"
+        );
+        Ok(())
+    }
 }
