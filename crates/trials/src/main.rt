@@ -4,11 +4,11 @@
 
 ghost use Rattle.std.specs.Prelude.{◌≡◌, length, vec_len};
 
-use format::faults::{BlockCause, Fault, RecordCause};
+use format::faults::Fault;
 use format::names::name;
 use format::records::check_records;
 use std::alloc::{AllocError, Global};
-use std::{fmt, fs, io};
+use std::{fmt, fs, io, mem};
 
 // A block is a header, the records, and the check of all before it.
 const BLOCK: usize = 512;
@@ -33,21 +33,23 @@ fn refusal(file: &[u8]) -> Option<Fault> {
     name(file, 0).err()
 }
 
-// A refusal as it is printed: its number, layer and place, all 0 where there is none.
+// A refusal as it is printed and compared: its number, layer and place, all 0 where there is none.
 #[derive(Clone, Copy)]
 struct Told(Option<Fault>);
 
+impl Told {
+    fn numbers(self) -> (u8, u8, usize) {
+        self.0.map_or(
+            (0, 0, 0),
+            |fault| (fault.number(), fault.layer(), fault.place()),
+        )
+    }
+}
+
 impl fmt::Display for Told {
     fn fmt<W: fmt::Write>(&self, f: &mut fmt::Formatter<W>) -> fmt::Result {
-        match self.0 {
-            Some(fault) => {
-                let number = fault.number();
-                let layer = fault.layer();
-                let place = fault.place();
-                write!(f, "({number}, {layer}, {place})")
-            }
-            None => f.write_str("(0, 0, 0)"),
-        }
+        let (number, layer, place) = self.numbers();
+        write!(f, "({number}, {layer}, {place})")
     }
 }
 
@@ -76,7 +78,8 @@ fn step() -> Record {
     let mut record = [0; RECORD];
     record[0] = 1;
     record[2] = 1;
-    rename(&mut record, 1);
+    record[NAME] = 1;
+    record[NAME + 1] = b's';
     record
 }
 
@@ -90,6 +93,12 @@ fn lone_block(records: &[Record]) -> Block {
     }
     seal(&mut block);
     block
+}
+
+// Writes one byte, and answers what it was.
+fn replace(bytes: &mut [u8], at: usize, byte: u8) -> Option<u8> {
+    let place = bytes.get_mut(at)?;
+    Some(mem::replace(place, byte))
 }
 
 // A sample file, and the copy of it that each trial changes.
@@ -132,21 +141,22 @@ impl<'a> Trial<'a> {
         })
     }
 
-    // Why it is refused, if it is, once one byte is another.
+    // Why the copy is refused, if it is, once one byte is another. The byte is put back, since to copy
+    // the whole file for each of its bytes takes a time that grows by the square of its length.
     fn changed(&mut self, at: usize, byte: u8) -> Option<Fault> {
-        self.refused_with(|copy| {
-            if let Some(place) = copy.get_mut(at) {
-                *place = byte;
-            }
-        })
+        let old = replace(self.copy.as_mut_slice(), at, byte)?;
+        let fault = refusal(self.copy.as_slice());
+        let _ = replace(self.copy.as_mut_slice(), at, old);
+        fault
     }
 
-    // How many records, once renamed, are refused at their own place for the cause, or taken where
+    // How many records, once renamed, are refused at their own place by the number, or taken where
     // there is none.
-    fn count_renamed(&mut self, length: u8, wanted: Option<RecordCause>) -> usize {
+    fn count_renamed(&mut self, length: u8, wanted: Option<u8>) -> usize {
         (0..self.records)
             .filter(|&place| {
-                self.renamed(place, length) == wanted.map(|cause| Fault::Record { cause, place })
+                Told(self.renamed(place, length)).numbers()
+                    == wanted.map_or((0, 0, 0), |number| (number, 2, place))
             })
             .count()
     }
@@ -154,6 +164,7 @@ impl<'a> Trial<'a> {
     // How many of all changes of one byte are refused by the check of its block.
     fn count_changed(&mut self) -> usize {
         let file = self.file;
+        self.copy.as_mut_slice().copy_from_slice(file);
         file.iter()
             .enumerate()
             .map(|(at, old)| self.count_changed_at(at, *old))
@@ -161,12 +172,10 @@ impl<'a> Trial<'a> {
     }
 
     fn count_changed_at(&mut self, at: usize, old: u8) -> usize {
-        let wanted = Some(Fault::Block {
-            cause: BlockCause::Check,
-            place: at / BLOCK,
-        });
         (1..=u8::MAX)
-            .filter(|by| self.changed(at, old.wrapping_add(*by)) == wanted)
+            .filter(|by| {
+                Told(self.changed(at, old.wrapping_add(*by))).numbers() == (2, 1, at / BLOCK)
+            })
             .count()
     }
 }
@@ -174,10 +183,10 @@ impl<'a> Trial<'a> {
 fn main(rt: HostRuntime) -> io::Result<()> {
     let file = fs::read(&rt, "fitting.knee")?;
     let mut trial = Trial::new(rt.alloc(), file.as_slice())?;
+    let long = vec![in rt.alloc(); 0u8; 9728]?;
     let bytes = file.len();
     let records = trial.records;
     println!(rt; "fitting.knee: {bytes} bytes, {records} records")?;
-    let long = vec![in rt.alloc(); 0u8; 9728]?;
     let told = Told(refusal(long.as_slice()));
     println!(rt; "length 9728: {told}")?;
     let eight = Told(refusal(&lone_block(&[step()])));
@@ -185,12 +194,8 @@ fn main(rt: HostRuntime) -> io::Result<()> {
     println!(rt; "eight blanks: {eight}, nine blanks: {nine}")?;
     let renamings = [
         (13, None, "taken"),
-        (14, Some(RecordCause::Name), "refused by 7 at their record"),
-        (
-            0,
-            Some(RecordCause::Unnamed),
-            "refused by 6 at their record",
-        ),
+        (14, Some(7), "refused by 7 at their record"),
+        (0, Some(6), "refused by 6 at their record"),
     ];
     for (length, wanted, told) in renamings {
         let right = trial.count_renamed(length, wanted);
