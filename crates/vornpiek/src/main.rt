@@ -38,8 +38,9 @@ fn run(rt: &(impl Env + Files + Print + AllocGlobal)) -> Result<(), Failure> {
     let words: Vec<&str> = args.iter().map(String::as_str).collect(rt.alloc())?;
     let mut out = io::writer(rt);
     match Command::try_from(words.as_slice())? {
-        Command::Help => writeln!(out, "{HELP}")?,
-        Command::Version => writeln!(out, "{VERSION}")?,
+        // One write, by the macro: a reader that takes the first line and stops is no failure.
+        Command::Help => println!(rt; "{HELP}")?,
+        Command::Version => println!(rt; "{VERSION}")?,
         Command::Names { path } => {
             let file = read_setup(rt, path)?;
             print_names(&mut out, file.as_slice())?;
