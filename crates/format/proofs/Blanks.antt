@@ -25,8 +25,8 @@ module _ (file : Bytes) where
   abbrev first : ℕ
   first = first_blank file
 
-  tells : Least n blank_at first
-  tells = first_tells n blank_at
+  pub first_blank_tells : Least (record_count file) blank_at (first_blank file)
+  first_blank_tells = first_tells n blank_at
 
   -- the two tests of the rule that find a record
   abbrev kept : ℕ → Bool
@@ -36,21 +36,21 @@ module _ (file : Bytes) where
   late r = not (blank_at r) && some_below r blank_at
 
   counted : ((k : ℕ) → first ≤ k → k < n → nonzero_at k ≡ false) → count_below n blank_at + first ≡ n
-  counted zeros = count_from n blank_at first tells.before (λ k le lt. zeros_blank (record_of file k) (zeros k le lt)) tells.within
+  counted zeros = count_from n blank_at first first_blank_tells.before (λ k le lt. zeros_blank (record_of file k) (zeros k le lt)) first_blank_tells.within
 
   pub blanks_good : ((k : ℕ) → first_blank file ≤ k → k < record_count file → nonzero_at k ≡ false) → record_count file ≤ first_blank file + 8 → blanks_wrong file ≡ false
   blanks_good zeros few =
-      let no_kept = some_none n kept (λ r lt. grind (arith, tells.before r, zeros r, cases_lt r first)) in
+      let no_kept = some_none n kept (λ r lt. grind (arith, first_blank_tells.before r, zeros r, cases_lt r first)) in
       let no_late = some_none n late (λ r lt.
       let ahead = some_none r blank_at in
       let behind = λ (le : first ≤ r). zeros_blank (record_of file r) (zeros r le lt) in
-      grind (arith, cases_lt r first, tells.before)) in
+      grind (arith, cases_lt r first, first_blank_tells.before)) in
       grind (arith, nat_tests, counted zeros)
 
   pub blanks_bad : (k : ℕ) → first_blank file ≤ k → k < record_count file → nonzero_at k ≡ true → blanks_wrong file ≡ true
   blanks_bad k behind lt nonzero =
       let ahead = some_found k blank_at first in
-      grind (arith, some_found n kept k lt, some_found n late k lt, tells.passes, cases_order first k)
+      grind (arith, some_found n kept k lt, some_found n late k lt, first_blank_tells.passes, cases_order first k)
 
   pub blanks_many : first_blank file + 8 < record_count file → blanks_wrong file ≡ true
   blanks_many many =

@@ -1,5 +1,5 @@
 -- The record layer: a record's parts, and its checks one after the other.
-use Rattle.std.proofs.Common.{◌≡◌, ℕ, ◌+◌, ◌≤◌, false, ◌&&◌, List, [], ◌∷◌, ◌++◌, take, drop, None, sym, ap, ◌∙◌, add-one, arith}
+use Rattle.std.proofs.Common.{◌≡◌, ℕ, ◌+◌, ◌≤◌, true, false, ◌&&◌, List, [], ◌∷◌, ◌++◌, take, drop, None, sym, ap, ◌∙◌, add-one, arith}
 use Rattle.std.proofs.lemmas.List.{get_or-drop, get_or-take, drop-drop, drop-take}
 use Rattle.std.proofs.lemmas.Grind.{common_steps}
 use Rattle.std.proofs.lemmas.Bool.{cond-false}
@@ -42,6 +42,16 @@ module _ (ahead : Ahead) (rec : Bytes) where
   pub past_kind : is_blank rec ≡ false → wrong_kind ahead (kind_of rec) ≡ false → first_failing (record_checks ahead rec) ≡ first_failing (named ++ last_two)
   past_kind some right = ap first_failing (cond-false (is_blank rec) [] _ some) ∙ cond-false (wrong_kind ahead (kind_of rec)) _ _ right
 
+  pub past_name : is_blank rec ≡ false → wrong_kind ahead (kind_of rec) ≡ false → first_failing named ≡ None → first_failing (record_checks ahead rec) ≡ first_failing last_two
+  past_name some right name = past_kind some right ∙ past named last_two name
+
+  -- of the last two checks a step has the first, and an outcome the second
+  pub step_last : is_step rec ≡ true → is_outcome rec ≡ false → first_failing last_two ≡ first_failing (record_check 8 ahead.records (wrong_step ahead (step_of rec) (mask_of rec) (unused_of rec)) ∷ [])
+  step_last step other = grind (arith, nat_tests)
+
+  pub outcome_last : is_step rec ≡ false → is_outcome rec ≡ true → first_failing last_two ≡ first_failing (record_check 9 ahead.records (wrong_outcome ahead (step_of rec)) ∷ [])
+  outcome_last other outcome = grind (arith, nat_tests)
+
   -- a step behind no outcome has its name and its own fields to check
   module _ (step : kind_of rec ≡ 1) (first : ahead.outcomes ≡ 0) where
     pub step_name : first_failing (record_checks ahead rec) ≡ first_failing (named ++ last_two)
@@ -49,7 +59,7 @@ module _ (ahead : Ahead) (rec : Bytes) where
 
     pub step_left : first_failing named ≡ None → first_failing (record_checks ahead rec) ≡ first_failing (record_check 8 ahead.records (wrong_step ahead (step_of rec) (mask_of rec) (unused_of rec)) ∷ [])
     step_left name =
-        step_name ∙ past named last_two name ∙ grind (arith, nat_tests)
+        step_name ∙ past named last_two name ∙ step_last (grind (arith, common_steps)) (grind (arith, common_steps))
 
   -- and so has an outcome
   module _ (outcome : kind_of rec ≡ 2) where
@@ -58,7 +68,7 @@ module _ (ahead : Ahead) (rec : Bytes) where
 
     pub outcome_left : first_failing named ≡ None → first_failing (record_checks ahead rec) ≡ first_failing (record_check 9 ahead.records (wrong_outcome ahead (step_of rec)) ∷ [])
     outcome_left name =
-        outcome_name ∙ past named last_two name ∙ grind (arith, nat_tests)
+        outcome_name ∙ past named last_two name ∙ outcome_last (grind (arith, common_steps)) (grind (arith, common_steps))
 
   -- a record that passes, and is not blank, has a name that is not too long
   pub name_fits : is_blank rec ≡ false → first_failing (record_checks ahead rec) ≡ None → name_length rec ≤ 13

@@ -16,6 +16,12 @@ unfolding some_below
 some_found zero p k lt h = absurd (omega arith)
 some_found (suc n) p k lt h = let rest = some_found n p k in grind (arith, cases_order k n)
 
+-- searches by tests that pass alike
+pub some_same : (n : ℕ) (p q : ℕ → Bool) → ((k : ℕ) → k < n → p k ≡ q k) → some_below n p ≡ some_below n q
+unfolding some_below
+some_same zero p q h = refl
+some_same (suc n) p q h = let rest = some_same n p q (λ k lt. h k (omega arith)) in grind (arith, h n)
+
 -- a search that has found nothing, at its start and one number further
 pub none_yet : (p : ℕ → Bool) → some_below 0 p ≡ false
 unfolding some_below
