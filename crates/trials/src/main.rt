@@ -3,6 +3,7 @@
 #![tactic(auto)]
 
 ghost use Rattle.std.specs.Prelude.{◌≡◌, length, vec_len};
+ghost use Rattle.format.specs.Refusals.{number_of, layer_of, place_of};
 
 use format::faults::Fault;
 use format::names::name;
@@ -33,22 +34,20 @@ fn refusal(file: &[u8]) -> Option<Fault> {
     name(file, 0).err()
 }
 
-// A refusal as it is printed and compared: its number, layer and place, all 0 where there is none.
+// What tells one refusal from another: its number, layer and place.
+fn numbers(fault: Fault) -> (u8, u8, usize)
+    ensures { (result.0 ≡ number_of fault) × ((result.1 ≡ layer_of fault) × (result.2 ≡ place_of fault)) }
+{
+    (fault.number(), fault.layer(), fault.place())
+}
+
+// A refusal as it is printed: its numbers, all 0 where there is none.
 #[derive(Clone, Copy)]
 struct Told(Option<Fault>);
 
-impl Told {
-    fn numbers(self) -> (u8, u8, usize) {
-        self.0.map_or(
-            (0, 0, 0),
-            |fault| (fault.number(), fault.layer(), fault.place()),
-        )
-    }
-}
-
 impl fmt::Display for Told {
     fn fmt<W: fmt::Write>(&self, f: &mut fmt::Formatter<W>) -> fmt::Result {
-        let (number, layer, place) = self.numbers();
+        let (number, layer, place) = self.0.map_or((0, 0, 0), numbers);
         write!(f, "({number}, {layer}, {place})")
     }
 }
@@ -155,8 +154,7 @@ impl<'a> Trial<'a> {
     fn count_renamed(&mut self, length: u8, wanted: Option<u8>) -> usize {
         (0..self.records)
             .filter(|&place| {
-                Told(self.renamed(place, length)).numbers()
-                    == wanted.map_or((0, 0, 0), |number| (number, 2, place))
+                self.renamed(place, length).map(numbers) == wanted.map(|number| (number, 2, place))
             })
             .count()
     }
@@ -174,7 +172,7 @@ impl<'a> Trial<'a> {
     fn count_changed_at(&mut self, at: usize, old: u8) -> usize {
         (1..=u8::MAX)
             .filter(|by| {
-                Told(self.changed(at, old.wrapping_add(*by))).numbers() == (2, 1, at / BLOCK)
+                self.changed(at, old.wrapping_add(*by)).map(numbers) == Some((2, 1, at / BLOCK))
             })
             .count()
     }
